@@ -96,11 +96,6 @@ ended k o a f number choice g history state floor seat own legal unqueued grows 
           few_of history g.history g.seats g.budget a.floor.seats a.floor.budget is_history seats budget within;
     }
 
--- what holds for all seats of the hall holds for all seats of the floor, which a look doesn't change
-pub unqueued_all : (k : Rules) (o : Object) (f g : FloorView) (seats : ℕ) → IsUnqueued k o f seats → seats ≡ f.seats
-    → g ≡ f → IsUnqueued k o g g.seats
-unqueued_all k o f g seats none all same = grind (arith, nat_tests)
-
 -- the hall has ended for a seat that has looked at the ticket word
 pub ended_peeked : (k : Rules) (o : Object) (a b : Holder) (history : List Event) (state : List ℕ) → b.floor ≡ a.floor
     → b.me.seat ≡ a.me.seat → b.me.mine ≡ a.me.mine → IsEnded k o b history state → IsEnded k o a history state

@@ -4,7 +4,7 @@ use Rattle.std.proofs.Common.{[], ◌∷◌, ◌++◌, length, set, sym, refl, a
 use Rattle.std.proofs.{Math.Option.some-injective, lemmas.Bool.Decides.eqb_tells}
 use mathlib.Core.Option as maybe
 use lib.ListN.{get_elem?}
-use Rattle.atomic_table.{proofs.Lists.at_set, proofs.Lists.set_here, proofs.Lists.set_else, specs.Seated.TableId}
+use Rattle.atomic_table.{proofs.Lists.at_set, proofs.Lists.set_here, proofs.Lists.set_else}
 use Rattle.monk_kinds.specs.declared.mode.Rules.{Rules}
 use Rattle.monk_object.specs.Object.{Object}
 use Rattle.monk_history.proofs.PublicLaws.Meaning.{legal_front}
@@ -18,9 +18,8 @@ use Rattle.monk_hall.proofs.Dealing.{shown_moved, IsStill}
 use Rattle.monk_hall.proofs.Seats.{is_at, is_desk, is_near, is_setting, long, only}
 use Rattle.monk_hall.specs.{Changes.longer, Changes.view_after_join, Floors.StartsWith, Laws.HallState, Layout.floor_of}
 use Rattle.monk_hall.specs.{Records.View, Records.In, Records.IsOne, Records.the}
-use Rattle.monk_hall.specs.{Rule.AreShown, Rule.IsHall, Tells.AreOne, Tells.SeesTruly, Tokens.IsResting, Tokens.top}
+use Rattle.monk_hall.specs.{Rule.AreShown, Rule.IsHall, Tells.AreOne, Tells.SeesTruly}
 use Rattle.monk_hall.specs.declared.{deed.Deed.TheVariants.Meet, record.SeatRecord.SeatRecord, setting.Setting.Setting}
-use Rattle.monk_hall.specs.declared.{seat_numbers.SeatNumbers.SeatNumbers}
 use Rattle.std.proofs.lemmas.Bool.Decides.{nat_tests}
 
 -- two idle records are in one view
@@ -235,30 +234,3 @@ pub has_learned : (a b x y g : List Event) → AreOne a b → a ≡ x → b ≡ 
 has_learned a b x y g one is_x is_y is_longer =
     let long : IsLonger a b g = subst (IsLonger a b) (sym is_longer) (longer_both a b one) in
     (subst (StartsWith g) is_x long.first, subst (StartsWith g) is_y long.second)
-
--- a seat that has met another rests as before
-pub met_rests : (k : Rules) (o : Object) (y z : TableId) (v : View) (numbers : SeatNumbers) (left : ℕ) (r : SeatRecord)
-    (views : List View) → IsResting k o z (v, []) numbers left → (the v).place ≡ Idle → y ≡ z
-    → r.seat ≡ (the v).seat → r.setting ≡ (the v).setting → r.place ≡ (the v).place → r.count ≡ (the v).count
-    → r.mine ≡ (the v).mine → SeesTruly k o r → views ≡ (r ∷ []) ∷ []
-    → (views ≡ top views ∷ []) × IsResting k o y (top views, []) numbers left
-    × ((the (top views)).place ≡ Idle)
-met_rests k o y z v numbers left r views old idle table seat setting place count mine truly are =
-    subst (λ (vs : List View). (vs ≡ top vs ∷ []) × IsResting k o y (top vs, []) numbers left
-    × ((the (top vs)).place ≡ Idle)) (sym are) (
-      refl,
-      record {
-        one = refl;
-        free = refl;
-        seated = record {
-          is_seat = seat ∙ old.seated.is_seat;
-          near = subst (λ (x : Setting). numbers.seat < x.seats) (sym setting) old.seated.near;
-          sized = grind (arith, nat_tests);
-          counted = old.seated.counted ∙ sym count;
-          budgeted = old.seated.budgeted ∙ sym (ap (λ (x : Setting). x.budget) setting);
-        };
-        spent = grind (arith, nat_tests);
-        told = truly;
-      },
-      place ∙ idle,
-    )

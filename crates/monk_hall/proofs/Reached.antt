@@ -1,19 +1,19 @@
 -- Each call's step is one of a schedule. So at every moment some schedule leads to the table
-use Rattle.std.proofs.Common.{◌≡◌, ℕ, ◌+◌, ◌%◌, ◌≤◌, List, [], ◌∷◌, ◌++◌, length, replicate, set, sym, refl}
+use Rattle.std.proofs.Common.{◌≡◌, ℕ, ◌+◌, ◌%◌, ◌≤◌, List, [], ◌∷◌, ◌++◌, length, set, sym, refl}
 use Rattle.std.proofs.Common.{ap, ◌∙◌, subst, inl, inr, arith, append_assoc, length-append}
 use Rattle.std.proofs.lemmas.List.{set-get_or}
-use Rattle.std.specs.Prelude.{Option, Some, None, slice_index}
+use Rattle.std.specs.Prelude.{Option, Some, slice_index}
 use mathlib.Core.Option as maybe
 use lib.ListN.{get_elem?}
 use Rattle.atomic_table.proofs.Lists.{set_else}
-use Rattle.atomic_table.specs.Table.{opening, keeps, takes, gives, Allows, Joins, Splits}
+use Rattle.atomic_table.specs.Table.{keeps, takes, gives, Allows, Joins, Splits}
 use Rattle.monk_kinds.specs.{Kind.IsKind, declared.mode.Rules.Rules}
 use Rattle.monk_object.specs.Object.{Object}
 use Rattle.monk_history.specs.declared.event.Next.TheVariants as next
 use Rattle.monk_history.proofs.PublicLaws.Meaning.{legal_front, legal_last}
 use Rattle.monk_history.specs.Meaning.{Counts.events_of, Counts.granted_of, Legal.IsLegal, Release.with_next}
 use Rattle.monk_history.specs.declared.event.Event.{Event}
-use Rattle.monk_floor.specs.{Making.make_refusal, View.FloorView, View.monitor_of}
+use Rattle.monk_floor.specs.{View.FloorView, View.monitor_of}
 use Rattle.monk_world.specs.Places.{stage, ticket, back_turn, due_to, ticketed_stage, due_stage, active_stage}
 use Rattle.monk_world.specs.Places.{passing_stage, inside_stage}
 use Rattle.monk_world.specs.State.{with_event}
@@ -36,8 +36,8 @@ use Rattle.monk_hall.specs.Changes.{record_after_grant, view_after_join, view_af
 use Rattle.monk_hall.specs.Tells.{Me, TellsArrive, TellsTicketLook, TellsSeatLook, TellsPeek, TellsFloorOut}
 use Rattle.monk_hall.specs.Tells.{TellsFloorIn, held_history, TellsDrop, TellsTicketGrant, TellsCall, TellsCompare}
 use Rattle.monk_hall.specs.Tells.{Returns}
-use Rattle.monk_hall.specs.Layout.{floor_of, place_word, seat_word, word_count}
-use Rattle.monk_hall.specs.Records.{View, IsOne, the, head, tail, first_view}
+use Rattle.monk_hall.specs.Layout.{floor_of, place_word, seat_word}
+use Rattle.monk_hall.specs.Records.{View, IsOne, the, head, tail}
 use Rattle.std.proofs.lemmas.Bool.Decides.{nat_tests}
 
 -- the view has two records
@@ -53,12 +53,6 @@ schedule_push k o c s t u (y ∷ ys) x run step = (run.0, run.1, schedule_push k
 reached_on : (k : Rules) (o : Object) (c : Setting) (s t : HallState) (x : Step) → IsReached k o c s
     → IsStep k o c s x t → IsReached k o c t
 reached_on k o c s t x reached step = grind (arith, nat_tests, schedule_push)
-
--- the table with which a hall opens
-pub opens : (k : Rules) (o : Object) (c : Setting) (words : List ℕ) → make_refusal c.seats c.conds c.budget ≡ None
-    → words ≡ replicate (word_count c.seats) 0
-    → IsReached k o c (opening words (Some (floor_of c []) ∷ []) (first_view c))
-opens k o c words made zeros = grind (arith, nat_tests)
 
 -- if some schedule leads there, the words and records are those of a hall
 pub hall_of : (k : Rules) (o : Object) (c : Setting) → IsKind k → (s : HallState) → IsReached k o c s → IsHall k o c s

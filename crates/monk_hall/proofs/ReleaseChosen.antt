@@ -6,14 +6,12 @@ use Rattle.monk_kinds.specs.declared.mode.Pick.{Pick}
 use Rattle.monk_kinds.specs.declared.mode.Rules.{Rules}
 use Rattle.monk_object.specs.Object.{Object}
 use Rattle.monk_history.specs.declared.event.Next.TheVariants as next
-use Rattle.monk_history.specs.Meaning.{Events.seat_of, Events.is_stay, Monitor.Monitor, Reasons.IsAllowed}
+use Rattle.monk_history.specs.Meaning.{Events.seat_of, Events.is_stay}
 use Rattle.monk_history.specs.Meaning.{Release.with_next, Release.choice_of, Wish.choice_by, Turn.turn_by}
 use Rattle.monk_history.specs.Meaning.Counts.{is_enter}
 use Rattle.monk_history.specs.Meaning.Choice.{Queues, must_stay, queues_at}
 use Rattle.monk_history.specs.declared.event.{Next.Next, Turn.TheVariants.Owned}
 use Rattle.monk_history.specs.declared.event.Event.{Event}
-use Rattle.monk_history.specs.declared.event.Event.TheVariants.{Leave, Wait, SignalLeave}
-use Rattle.monk_history.specs.declared.event.Event.TheVariants.{SignalWait}
 use Rattle.monk_floor.specs.View.{FloorView, stands_of}
 use Rattle.monk_world.specs.declared.home.Home.{Home}
 use Rattle.monk_hall.proofs.{Private.own_event, Releasing.said}
@@ -34,23 +32,6 @@ knows_reads k q s known wish = grind (arith, nat_tests)
 choice_knows : (b : Bool) (kept : Next) (by : Bool → Next) (x y : Bool) → (b ≡ false → by x ≡ by y)
     → cond b kept (by x) ≡ cond b kept (by y)
 choice_knows b kept by x y e = grind (arith, nat_tests)
-
--- a leave, a wait and a signal and leave never stay
-pub leave_goes : (m : Monitor) (h : List Event) (s : ℕ) (x : Next) → IsAllowed m h (Leave s x)
-    → is_stay (Some x) ≡ false
-leave_goes m h s x a = grind (arith, nat_tests)
-
-pub wait_goes : (m : Monitor) (h : List Event) (s c : ℕ) (x : Next) → IsAllowed m h (Wait s c x)
-    → is_stay (Some x) ≡ false
-wait_goes m h s c x a = grind (arith, nat_tests)
-
-pub signal_leave_goes : (m : Monitor) (h : List Event) (s c : ℕ) (x : Next) → IsAllowed m h (SignalLeave s c x)
-    → is_stay (Some x) ≡ false
-signal_leave_goes m h s c x a = grind (arith, nat_tests)
-
-pub signal_wait_goes : (m : Monitor) (h : List Event) (s c d : ℕ) (x : Next) → IsAllowed m h (SignalWait s c d x)
-    → is_stay (Some x) ≡ false
-signal_wait_goes m h s c d x a = grind (arith, nat_tests)
 
 pub stay_is : (x : Next) → is_stay (Some x) ≡ true → x ≡ next.Stay
 stay_is x e = grind (arith, nat_tests)

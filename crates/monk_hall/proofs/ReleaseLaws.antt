@@ -1,25 +1,25 @@
 -- How a release changes an active seat
-use Rattle.std.proofs.Common.{◌≡◌, ℕ, ◌+◌, ◌<◌, ◌≤◌, Bool, true, false, not}
+use Rattle.std.proofs.Common.{◌≡◌, ℕ, ◌+◌, ◌<◌, ◌≤◌, Bool, true, false}
 use Rattle.std.proofs.Common.{length, append-nil, Option, Some, refl, sym, ap, subst, ◌∙◌, arith}
 use Rattle.atomic_table.specs.Seated.{TableId}
 use Rattle.monk_kinds.specs.declared.mode.{Rules.Rules, Pick.Pick}
 use Rattle.monk_object.specs.Object.{Object}
 use Rattle.monk_history.specs.declared.event.Next.TheVariants as next
 use Rattle.monk_history.proofs.PublicLaws.Meaning.{legal-push}
-use Rattle.monk_history.specs.Meaning.{Choice.must_stay, Counts.events_of, Legal.IsLegal}
+use Rattle.monk_history.specs.Meaning.{Counts.events_of, Legal.IsLegal}
 use Rattle.monk_history.specs.Meaning.{Release.with_next, Release.choice_of, Turn.turn, Turn.turn_by}
-use Rattle.monk_history.specs.Meaning.Events.{is_stay, has_conditions, has_signaller_queue, returns_at_once}
+use Rattle.monk_history.specs.Meaning.Events.{is_stay}
 use Rattle.monk_history.specs.declared.event.{Next.Next, Turn.TheVariants.Owned}
 use Rattle.monk_history.specs.declared.event.Event.{Event}
-use Rattle.monk_history.specs.declared.event.Event.TheVariants.{Leave, Wait, Signal, SignalLeave, Until, SignalWait}
+use Rattle.monk_history.specs.declared.event.Event.TheVariants.{Leave}
 use Rattle.monk_floor.specs.{Grown.IsGrown, View.FloorView, View.monitor_of, View.stands_of}
 use Rattle.monk_world.specs.declared.home.Home.TheVariants as home
 use Rattle.monk_world.specs.{State.with_event, declared.home.Home.Home}
 use Rattle.monk_hall.proofs.{Private.own_event, Releasing.said, TokenLaws.grown_holds}
 use Rattle.monk_hall.proofs.ReleaseChosen.{stay_is, stay_keeps, never_enters, chosen_as_known, released}
 use Rattle.monk_hall.proofs.ReleaseChosen.{remembers_twice, of_setting, released_peeked}
-use Rattle.monk_hall.specs.{AfterCalls.MatchAfter, Changes.record_after_peek, Handing.HasGone}
-use Rattle.monk_hall.specs.{Recorded.IsRelease, Records.the, Tells.Me, Tells.TellsPeek, Tells.SeesTruly}
+use Rattle.monk_hall.specs.{AfterCalls.MatchAfter, Handing.HasGone}
+use Rattle.monk_hall.specs.{Recorded.IsRelease, Records.the, Tells.Me, Tells.SeesTruly}
 use Rattle.monk_hall.specs.Calls.{HasStayed, HasPeeked, is_entry_known}
 use Rattle.monk_hall.specs.Tokens.{Token, Holder, House, IsHolding, holder}
 use Rattle.monk_hall.specs.Granting.{Grant, granted_last, HasGranted, HasStayedAlone}
@@ -58,53 +58,6 @@ module _ {k : Rules} {o : Object} {z : TableId} {me : Me} {numbers : SeatNumbers
       → IsGrown k o f (Leave numbers.seat choice) g
       → IsRelease k o (the me.0) f (Leave numbers.seat next.Stay) wish known choice home.Idle g
   leaves h wish known choice g a is reads chosen grows = grind (arith, nat_tests)
-
-  pub waits : IsHolding k o z me numbers f → (c : ℕ) → c < f.conds → has_conditions k.mode ≡ true
-      → (wish : Pick) (known : Bool) (choice : Next) (g : FloorView) → (a : Holder) → holder z (the me.0) f ≡ a
-      → length a.me.mine + 3 ≤ a.me.setting.budget → known ≡ is_entry_known wish a.me.known
-      → choice ≡ choice_of k o (stands_of k o f) (Wait numbers.seat c next.Stay) known wish
-      → IsGrown k o f (Wait numbers.seat c choice) g
-      → IsRelease k o (the me.0) f (Wait numbers.seat c next.Stay) wish known choice home.Inner g
-  waits h c low has wish known choice g a is room reads chosen grows = grind (arith, nat_tests)
-
-  pub signals : IsHolding k o z me numbers f → (c : ℕ) → c < f.conds → has_signaller_queue k.mode ≡ true
-      → (wish : Pick) (known : Bool) (choice : Next) (g : FloorView) → (a : Holder) → holder z (the me.0) f ≡ a
-      → length a.me.mine + 3 ≤ a.me.setting.budget
-      → (must_stay o (stands_of k o f) (Signal numbers.seat c next.Stay) ≡ false
-      → known ≡ is_entry_known wish a.me.known)
-      → choice ≡ choice_of k o (stands_of k o f) (Signal numbers.seat c next.Stay) known wish
-      → IsGrown k o f (Signal numbers.seat c choice) g
-      → IsRelease k o (the me.0) f (Signal numbers.seat c next.Stay) wish known choice home.Inner g
-  signals h c low has wish known choice g a is room reads chosen grows = grind (arith, nat_tests)
-
-  pub signals_and_leaves : IsHolding k o z me numbers f → (c : ℕ) → c < f.conds
-      → returns_at_once k.mode ≡ true
-      → (wish : Pick) (known : Bool) (choice : Next) (g : FloorView) → (a : Holder) → holder z (the me.0) f ≡ a
-      → known ≡ is_entry_known wish a.me.known
-      → choice ≡ choice_of k o (stands_of k o f) (SignalLeave numbers.seat c next.Stay) known wish
-      → IsGrown k o f (SignalLeave numbers.seat c choice) g
-      → IsRelease k o (the me.0) f (SignalLeave numbers.seat c next.Stay) wish known choice home.Idle g
-  signals_and_leaves h c low has wish known choice g a is reads chosen grows = grind (arith, nat_tests)
-
-  pub signals_and_waits : IsHolding k o z me numbers f → (c d : ℕ) → c < f.conds → d < f.conds
-      → returns_at_once k.mode ≡ true → (wish : Pick) (known : Bool) (choice : Next) (g : FloorView)
-      → (a : Holder) → holder z (the me.0) f ≡ a
-      → length a.me.mine + 3 ≤ a.me.setting.budget → known ≡ is_entry_known wish a.me.known
-      → choice ≡ choice_of k o (stands_of k o f) (SignalWait numbers.seat c d next.Stay) known wish
-      → IsGrown k o f (SignalWait numbers.seat c d choice) g
-      → IsRelease k o (the me.0) f (SignalWait numbers.seat c d next.Stay) wish known choice home.Inner g
-  signals_and_waits h c d low low_too has wish known choice g a is room reads chosen grows = grind (arith, nat_tests)
-
-  pub waits_until : IsHolding k o z me numbers f → (p : ℕ) → p < o.predicates
-      → not (has_conditions k.mode) ≡ true
-      → (wish : Pick) (known : Bool) (choice : Next) (g : FloorView) → (a : Holder) → holder z (the me.0) f ≡ a
-      → length a.me.mine + 3 ≤ a.me.setting.budget
-      → (must_stay o (stands_of k o f) (Until numbers.seat p next.Stay) ≡ false
-      → known ≡ is_entry_known wish a.me.known)
-      → choice ≡ choice_of k o (stands_of k o f) (Until numbers.seat p next.Stay) known wish
-      → IsGrown k o f (Until numbers.seat p choice) g
-      → IsRelease k o (the me.0) f (Until numbers.seat p next.Stay) wish known choice home.Inner g
-  waits_until h p low has wish known choice g a is room reads chosen grows = grind (arith, nat_tests)
 
   -- a seat that may park inside has events left for the way back
   pub room_inside : {call : Event} {wish : Pick} {known : Bool} {choice : Next} {g : FloorView}
@@ -158,13 +111,6 @@ module _ {k : Rules} {o : Object} where
     floor = of_setting a b is y.floor;
   }
 
--- the active seat has looked at the ticket word
-pub peeked_once : (z y : TableId) (me new : Me) (f : FloorView) (found : ℕ) → y ≡ z → TellsPeek me found new
-    → (a : Holder) → holder z (the me.0) f ≡ a → HasPeeked 1 a (holder y (the new.0) f)
-peeked_once z y me new f found same step a is =
-    let r = the me.0 in let w = record_after_peek r found in
-    grind (arith, nat_tests)
-
 pub peeked_none : (n : ℕ) (a : Holder) → n ≡ 0 → HasPeeked n a a
 peeked_none n a e = subst (λ m. HasPeeked m a a) (sym e)
     record {
@@ -177,16 +123,6 @@ module _ {k : Rules} {o : Object} {z : TableId} {me : Me} {numbers : SeatNumbers
   pub has_cond : IsHolding k o z me numbers f → (c : ℕ) (a : Holder) → holder z (the me.0) f ≡ a
       → c < a.me.setting.conds → c < f.conds
   has_cond h c a is low = grind (arith, nat_tests)
-
--- what is known if there is something to choose, for the floor in its hands
-pub must_known : {k : Rules} {o : Object} {z : TableId} {me : Me} {numbers : SeatNumbers} {f : FloorView}
-    → IsHolding k o z me numbers f → (a : Holder) → holder z (the me.0) f ≡ a
-    → (call : ℕ → Event) {R : Type 0}
-    → (must_stay o (stands_of k o a.floor) (call a.me.seat) ≡ false → R)
-    → must_stay o (stands_of k o f) (call numbers.seat) ≡ false → R
-must_known {k} {o} {f = f} h a is call told free =
-    told ((λ i. must_stay o (stands_of k o (sym is i).floor) (call (sym is i).me.seat))
-    ∙ ap (λ n. must_stay o (stands_of k o f) (call n)) h.seated.is_seat ∙ free)
 
 -- the same for a release with what it granted
 granted_peeked : {k : Rules} {o : Object} (peeks : ℕ) (a b : Holder) → HasPeeked peeks a b

@@ -1,19 +1,8 @@
 -- A seat that has looked several times comes in as it would have the first time
-use Rattle.std.proofs.Common.{◌≡◌, ℕ, zero, suc, false, true, sym, ap, ◌∙◌, List, [], ◌∷◌, ◌++◌, append-nil, append_assoc}
-use Rattle.monk_kinds.specs.declared.mode.Rules.{Rules}
-use Rattle.monk_object.specs.Object.{Object}
+use Rattle.std.proofs.Common.{◌≡◌, ℕ, zero, suc, false, sym, ap, ◌∙◌, List, ◌++◌, append-nil, append_assoc}
 use Rattle.monk_world.specs.declared.place.Place.{Place}
-use Rattle.monk_hall.specs.{Deeds.look_at, Deeds.looks_in_vain, Tokens.Token, Tokens.Holder}
-use Rattle.monk_hall.specs.Calls.{ComesAfter, HasEntered}
-use Rattle.monk_hall.specs.declared.{deed.Deed.Deed, deed.Deed.TheVariants.FloorOut, record.SeatRecord.SeatRecord}
-use Rattle.std.proofs.lemmas.Bool.Decides.{nat_tests}
-use Rattle.std.proofs.Common.{arith}
-
-pub entered_same : (k : Rules) (o : Object) (p q : Token) (a : Holder) (did : List Deed) → q.hall ≡ p.hall
-    → q.me ≡ record p.me { did = did } → HasEntered k o q a → HasEntered k o p a
-entered_same k o p q a did hall me e =
-    let f : HasEntered k o (record { hall = p.hall; me = record p.me { did = did } }) a = grind (arith, nat_tests) in
-    grind (arith, nat_tests)
+use Rattle.monk_hall.specs.{Deeds.look_at, Deeds.looks_in_vain}
+use Rattle.monk_hall.specs.declared.{deed.Deed.Deed, record.SeatRecord.SeatRecord}
 
 -- one more look in vain, after the others
 pub one_more : (n : ℕ) (p : Place) → looks_in_vain n p ++ look_at p false ≡ looks_in_vain (suc n) p
@@ -31,10 +20,3 @@ looks_again r w v n is more = more
       did = (append_assoc r.did (looks_in_vain n r.place) (look_at r.place false)
           ∙ ap (λ (ds : List Deed). r.did ++ ds) (one_more n r.place)) i;
     })
-
--- or it comes in
-pub comes_later : (r w v : SeatRecord) (n : ℕ) → w ≡ record r { did = r.did ++ looks_in_vain n r.place }
-    → ComesAfter 0 w v → ComesAfter n r v
-comes_later r w v n is comes = comes
-    ∙ ap (λ (x : SeatRecord). x.did ++ (look_at x.place true ++ FloorOut ∷ [])) is
-    ∙ append_assoc r.did (looks_in_vain n r.place) (look_at r.place true ++ FloorOut ∷ [])

@@ -1,6 +1,6 @@
 -- What tokens keep through a look, and through an event of the active seat
-use Rattle.std.proofs.Common.{◌≡◌, ℕ, ◌+◌, ◌<◌, ◌≤◌, true, false, List, [], ◌∷◌, ◌++◌}
-use Rattle.std.proofs.Common.{length, append-nil, append_assoc, refl, sym, ap, subst, ◌∙◌, arith}
+use Rattle.std.proofs.Common.{◌≡◌, ◌+◌, ◌<◌, ◌≤◌, false, [], ◌∷◌, ◌++◌}
+use Rattle.std.proofs.Common.{length, append_assoc, refl, sym, ap, subst, ◌∙◌, arith}
 use Rattle.atomic_table.specs.Seated.{TableId}
 use Rattle.monk_kinds.specs.declared.mode.Rules.{Rules}
 use Rattle.monk_object.specs.Object.{Object}
@@ -9,17 +9,12 @@ use Rattle.monk_history.specs.Meaning.{Counts.events_of, Counts.is_enter, Events
 use Rattle.monk_history.specs.Meaning.{Reasons.IsAllowed, Turn.turn_by}
 use Rattle.monk_history.specs.declared.event.{Event.Event, Turn.TheVariants.Owned}
 use Rattle.monk_floor.specs.View.{FloorView, monitor_of}
-use Rattle.monk_world.specs.{Places.stage, Places.due_stage, State.with_event}
-use Rattle.monk_world.specs.declared.place.Place.{Place}
-use Rattle.monk_world.specs.declared.place.Place.TheVariants.{Due}
-use Rattle.monk_world.specs.declared.source.Source.{Source}
+use Rattle.monk_world.specs.{State.with_event}
 use Rattle.monk_hall.proofs.{Private.own_event, EntrySteps.own_longer, EntrySteps.own_more}
-use Rattle.monk_hall.specs.{Changes.source_from, Deeds.look_at, Floors.GoesOn, Records.the, Tells.Me}
-use Rattle.monk_hall.specs.Tokens.{Token, Holder, IsHolding, holder}
-use Rattle.monk_hall.specs.Calls.{ComesAfter, HasEntered, HasDone, HasLooked, record_after_look}
+use Rattle.monk_hall.specs.{Floors.GoesOn, Records.the, Tells.Me}
+use Rattle.monk_hall.specs.Tokens.{IsHolding, holder}
+use Rattle.monk_hall.specs.Calls.{HasDone}
 use Rattle.monk_hall.specs.declared.{record.SeatRecord.SeatRecord, seat_numbers.SeatNumbers.SeatNumbers}
-use Rattle.monk_hall.specs.declared.deed.Deed.{Deed}
-use Rattle.monk_hall.specs.declared.deed.Deed.TheVariants.{FloorOut}
 use Rattle.std.proofs.lemmas.Bool.Decides.{nat_tests}
 
 -- what a look doesn't change
@@ -29,36 +24,7 @@ pub record IsAsBefore (r w : SeatRecord) : Type 0 where
   pub seen : w.seen ≡ r.seen
   pub mine : w.mine ≡ r.mine
 
-look_leaves : (p : Place) (r : SeatRecord) (found : ℕ) → IsAsBefore r (record_after_look p r found)
-look_leaves p r found = grind (arith, nat_tests)
-
--- a seat that is due after its look has found its grant, if it had to look
-looked_due : (p : Place) (r : SeatRecord) (found : ℕ) → stage (record_after_look p r found).place ≡ due_stage
-    → (record_after_look p r found).did ≡ r.did ++ look_at p true
-looked_due p r found e = grind (arith, nat_tests, append-nil)
-
-came_same : (p : Place) (r : SeatRecord) (found : ℕ) → r.place ≡ p
-    → source_from (record_after_look p r found).place ≡ source_from p
-came_same p r found at = grind (arith, nat_tests)
-
 module _ {k : Rules} {o : Object} where
-  -- a seat that looked and became active
-  pub entry_looked : (p q : Token) (a : Holder) → HasLooked k o p q → HasEntered k o q a → HasEntered k o p a
-  entry_looked p q a l x =
-      let s = look_leaves p.me.place p.me l.found in
-      let seat = ap (λ w. w.seat) l.me ∙ s.seat in let setting = ap (λ w. w.setting) l.me ∙ s.setting in
-      grind (arith, nat_tests, came_same)
-
-  -- and the steps by which it did
-  pub comes_by_look : (p q : Token) (a : Holder) (y : Source) → HasLooked k o p q → q.me.place ≡ Due y
-      → a.me.did ≡ q.me.did ++ FloorOut ∷ [] → ComesAfter 0 p.me a.me
-  comes_by_look p q a y l due out = out
-      ∙ ap (λ (ds : List Deed). ds ++ FloorOut ∷ [])
-      (ap (λ (w : SeatRecord). w.did) l.me
-      ∙ looked_due p.me.place p.me l.found
-      (ap (λ (w : SeatRecord). stage w.place) (sym l.me) ∙ ap stage due))
-      ∙ append_assoc p.me.did (look_at p.me.place true) (FloorOut ∷ [])
-
   -- an event of the active seat that keeps the turn with it
   pub grown_goes : (r : SeatRecord) (f : FloorView) (e : Event) → GoesOn k o r f → seat_of e ≡ r.seat
       → turn_by (seat_of e) (next_of e) ≡ Owned r.seat → is_enter e ≡ false → IsAllowed (monitor_of k o f) f.history e

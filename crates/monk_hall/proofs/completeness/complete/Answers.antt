@@ -7,24 +7,13 @@ use Rattle.monk_hall.specs.Tokens.{Token}
 use Rattle.std.proofs.lemmas.Grind.{common_steps}
 
 one_more : goal.loop-pass-preserved
-one_more g c =
-    let inv = c.loop-pass.invariant in
-    let below = c.loop-pass-test.true in
-    let n = c.loop-pass.pass-index in
-    let ps = c.args.passes.now in
-    let p = c.pass-item.result in
-    grind (arith, common_steps, one_made, one_known, KnowsItsOwn)
+one_more g c = grind (arith, common_steps, one_made, one_known, KnowsItsOwn)
 
 pub loop-pass-preserved : goal.loop-pass-preserved
 loop-pass-preserved g c = one_more g c
 
 pub overflow_add-known : goal.overflow_add-known
-overflow_add-known g c =
-    let more = one_more g c in
-    let fits = some_fit c.args.history.now c.args.seat c.args.passes.now (c.loop-pass.pass-index + 1) c.requires.apart
-    c.requires.seen more.1 in
-    let long = c.well_formed.0.0 in
-    omega (arith, more.0, fits, long)
+overflow_add-known g c = grind (arith, common_steps, one_more, some_fit)
 
 pub returns : goal.returns
 returns g c =

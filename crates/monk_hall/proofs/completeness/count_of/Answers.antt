@@ -8,11 +8,4 @@ pub loop-event-init : goal.loop-event-init
 loop-event-init c = starts_counted c.args.history.now c.args.seat
 
 pub loop-event-preserved : goal.loop-event-preserved
-loop-event-preserved c =
-    let inv = c.loop-event.invariant in
-    let below = c.loop-event-test.true in
-    let low = inv.1 in
-    elim c.if-seat.branch [
-      | then-seat w ↦ grind (arith, common_steps, own_counted)
-      | else-seat w ↦ grind (arith, common_steps, other_counted)
-    ]
+loop-event-preserved c = grind (arith, common_steps, then-seat, own_counted, else-seat, other_counted)

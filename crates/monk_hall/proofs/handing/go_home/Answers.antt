@@ -1,20 +1,20 @@
-use Rattle.std.proofs.Common.{◌≡◌, ℕ, ◌<◌, Bool, true, ◌&&◌, Option, Some, ◌∷◌, refl, sym, ap}
-use Rattle.std.proofs.Common.{subst, ◌∙◌, arith, rules}
+use Rattle.std.proofs.Common.{◌≡◌, ℕ, ◌<◌, Bool, true, ◌&&◌, Some, ◌∷◌, refl, sym, ap}
+use Rattle.std.proofs.Common.{subst, ◌∙◌, arith}
 use Rattle.std.specs.{Prelude.nat_lt, List.list_all}
 use Rattle.monk_kinds.specs.declared.mode.Rules.{Rules}
 use Rattle.monk_object.specs.Object.{Object}
 use Rattle.atomic_table.specs.Seated.{TableId}
 use Rattle.monk_history.specs.declared.event.Next.TheVariants as next
 use Rattle.monk_history.specs.Meaning.{Counts.granted_of, Reasons.is_in_range}
-use Rattle.monk_history.specs.Meaning.Events.{named_seat, next_of, seat_of}
+use Rattle.monk_history.specs.Meaning.Events.{named_seat, next_of}
 use Rattle.monk_history.specs.declared.event.{Event.Event, Next.Next}
 use Rattle.monk_world.specs.Places.{back_turn, due_to}
 use Rattle.monk_world.specs.declared.{home.Home.Home, place.Place.TheVariants.Back}
 use Rattle.monk_floor.specs.View.{FloorView}
 use Rattle.monk_hall.proofs.handing.go_home.Goals as goal
-use Rattle.monk_hall.proofs.{HandingLaws.chosen_due, HandingLaws.chosen_entry, HandingLaws.grants_by, Releasing.said}
+use Rattle.monk_hall.proofs.{HandingLaws.chosen_due, HandingLaws.chosen_entry, HandingLaws.grants_by}
 use Rattle.monk_hall.specs.{Changes.home_at, Layout.word_count, Records.IsOne, Records.the}
-use Rattle.monk_hall.specs.{Tells.Me, Tokens.House}
+use Rattle.monk_hall.specs.{Tells.Me}
 use Rattle.monk_hall.specs.Handing.{seat_called_by, HasRecordedRelease}
 use Rattle.std.proofs.lemmas.Bool.Decides.{nat_tests}
 use Rattle.std.proofs.lemmas.Grind.{common_steps}
@@ -30,49 +30,25 @@ named_near seats i x j h e = grind arith
 
 chosen_in : (seats conds codes predicates : ℕ) (e : Event) (x : Next) (j : ℕ) → next_of e ≡ Some x
     → is_in_range seats conds codes predicates e ≡ true → seat_called_by x ≡ Some j → j < seats
-chosen_in seats conds codes predicates e x j is h called =
-    named_near seats (seat_of e) x j
-    (subst (λ (y : Option Next). list_all (λ s. nat_lt s seats) (seat_of e ∷ named_seat y) ≡ true) is
-    (first_true _ _ _ _ h)) called
+chosen_in seats conds codes predicates e x j is h called = grind (arith, nat_tests)
 
 module _ {k : Rules} {o : Object} {z : TableId} {me : Me} {choice : Next} {to : Home} {f : FloorView} where
   chosen_before : (x : HasRecordedRelease k o z me choice to f) → (j : ℕ) → seat_called_by choice ≡ Some j
       → j < x.returns.before.seats
-  chosen_before x j e =
-      let r = x.returns in
-      grind (arith, nat_tests, chosen_in, said)
+  chosen_before x j e = grind (arith, nat_tests)
 
   chosen_floor : HasRecordedRelease k o z me choice to f → (j : ℕ) → seat_called_by choice ≡ Some j → j < f.seats
-  chosen_floor x j e =
-      subst (λ (n : ℕ). j < n) (sym (ap (λ (g : FloorView). g.seats) x.returns.grows)) (chosen_before x j e)
+  chosen_floor x j e = grind (arith, nat_tests)
 
   chosen_hall : HasRecordedRelease k o z me choice to f → (j : ℕ) → seat_called_by choice ≡ Some j → (seats : ℕ)
       → z.words ≡ word_count seats → j < seats
-  chosen_hall x j e seats sized =
-      let near = chosen_before x j e in
-      let same = ap (λ (g : FloorView). g.seats) x.returns.goes_on.is_floor in
-      let words = x.sized in
-      omega arith
+  chosen_hall x j e seats sized = grind (arith, nat_tests)
 
 pub granted-calls-requires : goal.granted-calls-requires
-granted-calls-requires g c = (
-  search rules,
-  (
-    search rules,
-    (
-      search rules,
-      subst (λ (f : FloorView). c.in-Some.called < f.seats) (sym c.deref.ensures)
-          (chosen_floor c.requires.released.1 c.in-Some.called (sym c.seat_called_by.ensures ∙ c.in-Some.is)),
-    ),
-  ),
-)
+granted-calls-requires g c = grind (arith, common_steps)
 
 pub seat_grant-requires-clause-near : goal.seat_grant-requires-clause-near
-seat_grant-requires-clause-near g c κs within =
-    chosen_hall c.requires.released.1 c.in-Some.called (sym c.seat_called_by.ensures ∙ c.in-Some.is)
-    c.hall.inside.words.table.shared.key.seats
-    (ap (λ (a : TableId). a.words) (c.requires.table ∙ sym (ap (λ (x : House). x.id) c.hall.view_is))
-    ∙ c.hall.invariant.0.0)
+seat_grant-requires-clause-near g c κs within = grind (arith, common_steps)
 
 pub seat_grant-requires-clause-back : goal.seat_grant-requires-clause-back
 seat_grant-requires-clause-back g c κs within =
@@ -91,7 +67,4 @@ let_in-requires-clause-back g c κs within =
     (refl, chosen_entry c.requires.released.1 (sym c.seat_called_by.ensures ∙ c.in-None.is))
 
 pub returns-in-Some-clause-granted : goal.returns-in-Some-clause-granted
-returns-in-Some-clause-granted g c =
-    let h = c.args.hall.now in
-    let grant = c.seat_grant.ensures in
-    grind (arith, common_steps, grants_by)
+returns-in-Some-clause-granted g c = grind (arith, common_steps, grants_by)

@@ -4,11 +4,7 @@ use Rattle.monk_hall.proofs.HandingLaws.{grants_by}
 use Rattle.std.proofs.lemmas.Grind.{common_steps}
 
 pub returns-then-waiting-eq1-clause-granted : goal.returns-then-waiting-eq1-clause-granted
-returns-then-waiting-eq1-clause-granted g c = let z = c.args.words.now.table.shared.table_id in let seats =
-    c.args.seats in
-    grind (arith, common_steps, grants_by)
+returns-then-waiting-eq1-clause-granted g c = grind (arith, common_steps, grants_by)
 
 pub returns-clause-granted : goal.returns-clause-granted
-returns-clause-granted g c = let z = c.args.words.now.table.shared.table_id in let seats = c.args.seats in
-    let grant = c.ticket_grant.ensures in
-    grind (arith, common_steps, grants_by)
+returns-clause-granted g c = grind (arith, common_steps, grants_by)

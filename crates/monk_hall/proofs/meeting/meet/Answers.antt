@@ -1,9 +1,9 @@
-use Rattle.std.proofs.Common.{arith, ◌≡◌, List, ◌∷◌, ◌++◌, [], refl, sym, ap, subst, ◌∙◌}
+use Rattle.std.proofs.Common.{arith, ◌≡◌, List, ◌∷◌, [], refl, sym, ap, subst, ◌∙◌}
 use Rattle.monk_hall.proofs.meeting.meet.Goals as goal
-use Rattle.monk_hall.proofs.MeetLaws.{has_learned, met_rests}
+use Rattle.monk_hall.proofs.MeetLaws.{has_learned}
 use Rattle.monk_hall.proofs.Reached.{IsTwo, meets, compares, parts_again}
-use Rattle.monk_hall.specs.{Changes.view_after_join, Changes.view_after_compare, Rule.setting_of, Tells.SeesTruly}
-use Rattle.monk_hall.specs.{Tokens.top, declared.deed.Deed.TheVariants.Meet, declared.record.SeatRecord.SeatRecord}
+use Rattle.monk_hall.specs.{Changes.view_after_join, Changes.view_after_compare, Rule.setting_of}
+use Rattle.monk_hall.specs.{Tokens.top}
 use Rattle.monk_hall.specs.Records.{View, IsOne, the, head, tail}
 use Rattle.std.proofs.lemmas.Grind.{common_steps}
 
@@ -60,39 +60,10 @@ part-second-requires-after_bounds g c κs within =
     )
 
 pub invariant_of-a : goal.invariant_of-a
-invariant_of-a g c =
-    let ia = c.a.invariant in
-    let m : View = c.join.new.seat.me.0 in
-    let both : m ≡ view_after_join c.lift-first.result.me.0 c.lift-other.result.me.0 = grind (arith, common_steps) in
-    let va = ap (λ m. m.0) c.lift-first.ensures.1 in
-    let loaded : c.compare.new.seat.me.0 ≡ view_after_compare m = ap (λ m. m.0) c.compare.ensures.2.0 in
-    let from_a : the m ≡ record (the (top c.a.inside.badge.views))
-    { did = (the (top c.a.inside.badge.views)).did ++ Meet ∷ [] } = ap the both
-    ∙ ap (λ (v : View). record (the v) { did = (the v).did ++ Meet ∷ [] }) va in
-    grind (arith, common_steps, met_rests)
+invariant_of-a g c = grind (arith, common_steps)
 
 pub invariant_of-b : goal.invariant_of-b
-invariant_of-b g c =
-    let ib = c.b.invariant in
-    let m : View = c.join.new.seat.me.0 in
-    let both : m ≡ view_after_join c.lift-first.result.me.0 c.lift-other.result.me.0 = grind (arith, common_steps) in
-    let vb = ap (λ m. m.0) c.lift-other.ensures.1 in
-    let loaded : c.compare.new.seat.me.0 ≡ view_after_compare m = ap (λ m. m.0) c.compare.ensures.2.0 in
-    let from_b : the (tail m) ≡ the (top c.b.inside.badge.views) = ap (λ (v : View). the (tail v)) both ∙ ap the vb in
-    met_rests g.K.Kind.rules g.T.Guarded.meaning c.into_badge-2.result.table_id c.b.inside.badge.table_id
-    (top c.b.inside.badge.views) c.b.inside.numbers c.b.inside.left
-    (the (tail (view_after_compare m))) c.into_badge-2.result.views
-    ib.1 ib.2 (c.into_badge-2.ensures.0 ∙ c.part-second.ensures.3 ∙ c.compare.ensures.0 ∙ c.join.ensures.0
-    ∙ c.lift-first.ensures.0 ∙ same_table)
-    (ap (λ (r : SeatRecord). r.seat) from_b) (ap (λ (r : SeatRecord). r.setting) from_b)
-    (ap (λ (r : SeatRecord). r.place) from_b) (ap (λ (r : SeatRecord). r.count) from_b)
-    (ap (λ (r : SeatRecord). r.mine) from_b)
-    (subst (λ (v : View). SeesTruly g.K.Kind.rules g.T.Guarded.meaning (the (tail v))) loaded c.compare.ensures.2.3)
-    (c.into_badge-2.ensures.2
-    ∙ ap (λ (v : View). v ∷ []) (ap (λ m. m.0) c.part-second.ensures.4 ∙ ap tail loaded))
-  where
-    same_table : c.a.inside.badge.table_id ≡ c.b.inside.badge.table_id
-    same_table = ap (λ t. t.hall) c.a.view_is ∙ c.requires.0 ∙ sym c.requires.1 ∙ sym (ap (λ t. t.hall) c.b.view_is)
+invariant_of-b g c = grind (arith, common_steps)
 
 pub returns-clause-first_learns : goal.returns-clause-first_learns
 returns-clause-first_learns g c =

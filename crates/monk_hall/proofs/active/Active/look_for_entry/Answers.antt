@@ -1,8 +1,6 @@
-use Rattle.std.proofs.Common.{Bool, sym, ap, ◌∙◌}
-use Rattle.monk_hall.proofs.ReleaseLaws.{peeked_none}
+use Rattle.std.proofs.Common.{arith}
 use Rattle.monk_hall.proofs.active.Active.look_for_entry.Goals as goal
+use Rattle.std.proofs.lemmas.Grind.{common_steps}
 
 pub returns-clause-peeked : goal.returns-clause-peeked
-returns-clause-peeked g c =
-    peeked_none _ c.args.self.now
-    (ap (λ (b : Bool). Rattle.std.proofs.Common.cond b 1 0) (sym c.asks_for_entry.ensures ∙ c.if-asks_for_entry.false))
+returns-clause-peeked g c = grind (arith, common_steps)

@@ -1,26 +1,12 @@
-use Rattle.monk_history.proofs.PublicLaws.Meaning.{may_signal_leave}
 use Rattle.monk_hall.proofs.active.Active.record_plain_signal_leave.Goals as goal
-use Rattle.monk_hall.proofs.{Boxed.shown_apart, ReleaseChosen.signal_leave_goes}
-use Rattle.monk_hall.proofs.ReleaseLaws.{has_cond, is_near, owns, signals_and_leaves}
 use Rattle.std.proofs.lemmas.Grind.{common_steps}
 use Rattle.std.proofs.Common.{arith}
 
 pub plain_signal_leave-release-requires-clause-call : goal.plain_signal_leave-release-requires-clause-call
-plain_signal_leave-release-requires-clause-call g c κs within =
-    let x = shown_apart c.deref_mut.ensures.shows c.of-release.ensures in
-    let h = x.holds in
-    let f = c.deref_mut.result.now in
-    grind (arith, common_steps, may_signal_leave, owns, is_near, has_cond)
+plain_signal_leave-release-requires-clause-call g c κs within = grind (arith, common_steps)
 
 pub returns-clause-recorded : goal.returns-clause-recorded
-returns-clause-recorded g c =
-    let x = shown_apart c.deref_mut.ensures.shows c.of-release.ensures in
-    let h = x.holds in
-    let call = c.plain_signal_leave-release in
-    grind (arith, common_steps, signals_and_leaves, has_cond)
+returns-clause-recorded g c = grind (arith, common_steps)
 
 pub returns-clause-away : goal.returns-clause-away
-returns-clause-away g c =
-    let f = c.deref_mut.result.now in
-    let call = c.plain_signal_leave-release in
-    grind (arith, common_steps, signal_leave_goes)
+returns-clause-away g c = grind (arith, common_steps)

@@ -1,7 +1,7 @@
 use Rattle.std.proofs.Common.{ap, arith}
 use Rattle.monk_hall.proofs.active.Active.record_signal_wait.Goals as goal
-use Rattle.monk_hall.proofs.{KindLaws.immediate, Boxed.shown_apart, ReleaseChosen.signal_wait_goes}
-use Rattle.monk_hall.proofs.ReleaseLaws.{has_cond, is_near, owns, signals_and_waits}
+use Rattle.monk_hall.proofs.{KindLaws.immediate, Boxed.shown_apart}
+use Rattle.monk_hall.proofs.ReleaseLaws.{has_cond, is_near, owns}
 use Rattle.monk_history.proofs.PublicLaws.Meaning.{may_signal_wait}
 use Rattle.monk_floor.specs.View.{monitor_of}
 use Rattle.std.proofs.lemmas.Grind.{common_steps}
@@ -19,14 +19,7 @@ signal_wait-release-requires-clause-call g c κs within =
     (g.met.K.ImmediateReturn g.world.𝓛 g.world.𝓜 g.world.𝓡 ((λ s x. x), (λ x. x), (λ x. x), λ x. x)).mode)
 
 pub returns-clause-recorded : goal.returns-clause-recorded
-returns-clause-recorded g c =
-    let x = shown_apart c.deref_mut.ensures.shows c.of-release.ensures in
-    let h = x.holds in
-    let call = c.signal_wait-release in
-    grind (arith, common_steps, signals_and_waits, has_cond, immediate)
+returns-clause-recorded g c = grind (arith, common_steps)
 
 pub returns-clause-away : goal.returns-clause-away
-returns-clause-away g c =
-    let f = c.deref_mut.result.now in
-    let call = c.signal_wait-release in
-    grind (arith, common_steps, signal_wait_goes)
+returns-clause-away g c = grind (arith, common_steps)

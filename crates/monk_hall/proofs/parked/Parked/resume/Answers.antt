@@ -1,8 +1,7 @@
-use Rattle.std.proofs.Common.{refl, zero, suc, false, sym, ap, subst, ◌∙◌, ◌++◌, append-nil, arith}
+use Rattle.std.proofs.Common.{refl, zero, suc, false, sym, ap, ◌∙◌, ◌++◌, append-nil, arith}
 use Rattle.monk_hall.proofs.parked.Parked.resume.Goals as goal
-use Rattle.monk_hall.proofs.ResumeLaws.{entered_same, looks_again, comes_later}
+use Rattle.monk_hall.proofs.ResumeLaws.{looks_again}
 use Rattle.monk_hall.specs.{Deeds.look_at, Tokens.Token, declared.record.SeatRecord.SeatRecord}
-use Rattle.monk_hall.specs.Calls.{ComesAfter, HasEntered}
 use Rattle.std.proofs.lemmas.Grind.{common_steps}
 
 pub loop-init : goal.loop-init
@@ -24,8 +23,4 @@ loop-preserved g c =
     )
 
 pub returns-in-Ok : goal.returns-in-Ok
-returns-in-Ok g c =
-    let seen = c.loop.invariant.1 in
-    let came = subst (λ (p : Token). HasEntered g.K.Kind.rules g.T.Guarded.meaning p c.in-Ok.active
-    × ComesAfter 0 p.me c.in-Ok.active.me) c.watch.ensures.0 c.in-Ok.ensures.active in
-    grind (arith, common_steps, entered_same, comes_later)
+returns-in-Ok g c = grind (arith, common_steps)

@@ -1,18 +1,11 @@
-use Rattle.std.proofs.Common.{◌≡◌, ◌∷◌, [], refl, sym, ap, subst, ◌∙◌}
+use Rattle.std.proofs.Common.{◌≡◌, ◌∷◌, [], refl, sym, ap, subst, ◌∙◌, rules}
 use Rattle.monk_world.specs.Places.{stage}
 use Rattle.monk_hall.proofs.steps.Words.never.Goals as goal
 use Rattle.monk_hall.proofs.Reached.{IsTwo, deals_next, never_joined, never_both}
 use Rattle.monk_hall.specs.{Records.View, Records.IsOne, Records.the, Records.head, Records.tail, Rule.setting_of}
 
 pub split_seat-other-requires : goal.split_seat-other-requires
-split_seat-other-requires g c =
-    let key = c.args.self.now.table.shared.key in (
-      c.requires.tables.1,
-      c.requires.tables.2,
-      deals_next g.K.Kind.rules g.T.Guarded.meaning
-          (setting_of (g.T.Guarded.state key.opening.value) key.seats key.conds key.budget) _ c.args.b.now.me.0
-          (the c.args.b.now.me.0) [] c.requires.second.0,
-    )
+split_seat-other-requires g c = search (rules, deals_next)
 
 pub join_seat-requires : goal.join_seat-requires
 join_seat-requires g c =

@@ -1,4 +1,4 @@
-use Rattle.std.proofs.Common.{arith, ◌≡◌, ℕ, sym, subst}
+use Rattle.std.proofs.Common.{arith, ℕ, sym, subst}
 use Rattle.atomic_table.specs.Table.{Allows}
 use Rattle.monk_hall.proofs.steps.grants.seat_grant.Goals as goal
 use Rattle.monk_hall.proofs.Reached.{calls_seat}
@@ -25,8 +25,4 @@ store-requires g c =
     )
 
 pub returns-clause-step : goal.returns-clause-step
-returns-clause-step g c =
-    let told = c.store.ensures.2 in
-    let due = c.requires.back.1 in
-    let same : told.0 ≡ c.args.called = omega arith in
-    grind (arith, common_steps)
+returns-clause-step g c = grind (arith, common_steps)

@@ -1,10 +1,10 @@
-use Rattle.std.proofs.Common.{arith, ℕ, ◌+◌, ◌%◌, ◌<◌, ◌≡◌, [], ◌∷◌, sym, ap, subst, ◌∙◌, mod-lt}
+use Rattle.std.proofs.Common.{arith, ℕ, ◌+◌, ◌%◌, ◌<◌, ◌≡◌, sym, subst, ◌∙◌, mod-lt}
 use Rattle.atomic_table.specs.Table.{Allows}
 use Rattle.monk_world.specs.Places.{ticket}
 use Rattle.monk_hall.proofs.steps.grants.ticket_grant.Goals as goal
 use Rattle.monk_hall.proofs.Reached.{grants_ticket}
-use Rattle.monk_hall.specs.{Changes.record_after_grant, Layout.place_word, Records.the, Rule.setting_of}
-use Rattle.monk_hall.specs.{Schedules.IsReached, Tells.TellsTicketGrant, declared.deed.Deed.TheVariants.GrantTicket}
+use Rattle.monk_hall.specs.{Layout.place_word, Records.the, Rule.setting_of}
+use Rattle.monk_hall.specs.{Schedules.IsReached, Tells.TellsTicketGrant}
 use Rattle.std.proofs.lemmas.Grind.{common_steps}
 
 pub store-requires : goal.store-requires
@@ -38,7 +38,4 @@ store-requires g c =
     )
 
 pub returns-clause-step : goal.returns-clause-step
-returns-clause-step g c =
-    c.store.ensures.2
-    ∙ ap (λ (n : ℕ). (record_after_grant (the c.args.seat.now.me.0) (GrantTicket n) ∷ [], c.args.seat.now.me.1))
-    (sym c.requires.passing.2)
+returns-clause-step g c = grind (arith, common_steps)
