@@ -17,13 +17,6 @@ use Rattle.monk_hall.specs.Calls.{HasDone}
 use Rattle.monk_hall.specs.declared.{record.SeatRecord.SeatRecord, seat_numbers.SeatNumbers.SeatNumbers}
 use Rattle.std.proofs.lemmas.Bool.Decides.{nat_tests}
 
--- what a look doesn't change
-pub record IsAsBefore (r w : SeatRecord) : Type 0 where
-  pub seat : w.seat ≡ r.seat
-  pub setting : w.setting ≡ r.setting
-  pub seen : w.seen ≡ r.seen
-  pub mine : w.mine ≡ r.mine
-
 module _ {k : Rules} {o : Object} where
   -- an event of the active seat that keeps the turn with it
   pub grown_goes : (r : SeatRecord) (f : FloorView) (e : Event) → GoesOn k o r f → seat_of e ≡ r.seat

@@ -5,11 +5,11 @@ use Rattle.monk_history.specs.Meaning.{Monitor.Monitor, Monitor.data_of, Situati
 use Rattle.monk_history.specs.Meaning.{Turn.turn, Turn.is_inside, Signallers.is_empty, Untils.untils, Untils.ready_of}
 use Rattle.monk_history.specs.Meaning.{Reasons.is_owned_by, Reasons.is_open, Release.MayCall}
 use Rattle.monk_history.specs.Meaning.Standing.{has_turn, in_queues, is_queued, IsPlaced}
-use Rattle.monk_history.specs.Meaning.Events.{has_conditions, has_signaller_queue, returns_at_once}
+use Rattle.monk_history.specs.Meaning.Events.{returns_at_once}
 use Rattle.monk_history.specs.declared.event.{Via.TheVariants.Free, Via.TheVariants.Handed, Next.TheVariants.Stay}
 use Rattle.monk_history.specs.declared.event.Turn.{Turn, TheVariants.Open, TheVariants.Owned}
 use Rattle.monk_history.specs.declared.event.Event.{Event}
-use Rattle.monk_history.specs.declared.event.Event.TheVariants.{Enter, Leave, Wait, Signal, SignalLeave, Until}
+use Rattle.monk_history.specs.declared.event.Event.TheVariants.{Enter}
 use Rattle.monk_history.specs.declared.event.Event.TheVariants.{SignalWait}
 use Rattle.std.proofs.lemmas.Bool.Decides.{nat_tests}
 
@@ -22,54 +22,8 @@ lt_is x n h = grind (arith, h)
 one_seat : (a : Bool) → a ≡ true → (a && true && true && true && true) ≡ true
 one_seat a h = cc
 
-seat_and : (a b : Bool) → a ≡ true → b ≡ true → (a && true && b && true && true) ≡ true
-seat_and a b h k = cc
-
-seat_then : (a b : Bool) → a ≡ true → b ≡ true → (a && true && true && b && true) ≡ true
-seat_then a b h k = cc
-
 seat_both : (a b c : Bool) → a ≡ true → b ≡ true → c ≡ true → (a && true && b && c && true) ≡ true
 seat_both a b c h k l = cc
-
-seat_last : (a b : Bool) → a ≡ true → b ≡ true → (a && true && true && true && b) ≡ true
-seat_last a b h k = cc
-
--- the seat that owns the turn may call
-pub may_leave : (m : Monitor) (h : List Event) (s : ℕ) → turn h ≡ Owned s → s < m.seats → MayCall m h (Leave s Stay)
-may_leave m h s t l =
-    record { in_range = one_seat _ (lt_is s m.seats l); offered = refl; in_turn = owned s (turn h) t; in_place = refl }
-
-pub may_wait : (m : Monitor) (h : List Event) (s c : ℕ) → turn h ≡ Owned s → s < m.seats → c < m.conds
-    → has_conditions m.kind.mode ≡ true → MayCall m h (Wait s c Stay)
-may_wait m h s c t l k o =
-    record {
-      in_range = seat_and _ _ (lt_is s m.seats l) (lt_is c m.conds k);
-      offered = o;
-      in_turn = owned s (turn h) t;
-      in_place = refl;
-    }
-
-pub may_signal_on : (m : Monitor) (h : List Event) (s c : ℕ) → turn h ≡ Owned s → s < m.seats → c < m.conds
-    → has_signaller_queue m.kind.mode ≡ true → MayCall m h (Signal s c Stay)
-may_signal_on m h s c t l k o =
-    record {
-      in_range = seat_then _ _ (lt_is s m.seats l) (lt_is c m.conds k);
-      offered = o;
-      in_turn =
-          owned s (turn h) t;
-      in_place = refl;
-    }
-
-pub may_signal_leave : (m : Monitor) (h : List Event) (s c : ℕ) → turn h ≡ Owned s → s < m.seats → c < m.conds
-    → returns_at_once m.kind.mode ≡ true → MayCall m h (SignalLeave s c Stay)
-may_signal_leave m h s c t l k o =
-    record {
-      in_range = seat_then _ _ (lt_is s m.seats l) (lt_is c m.conds k);
-      offered = o;
-      in_turn =
-          owned s (turn h) t;
-      in_place = refl;
-    }
 
 pub may_signal_wait : (m : Monitor) (h : List Event) (s c d : ℕ) → turn h ≡ Owned s → s < m.seats → c < m.conds
     → d < m.conds
@@ -77,17 +31,6 @@ pub may_signal_wait : (m : Monitor) (h : List Event) (s c d : ℕ) → turn h �
 may_signal_wait m h s c d t l k j o =
     record {
       in_range = seat_both _ _ _ (lt_is s m.seats l) (lt_is d m.conds j) (lt_is c m.conds k);
-      offered = o;
-      in_turn =
-          owned s (turn h) t;
-      in_place = refl;
-    }
-
-pub may_until : (m : Monitor) (h : List Event) (s p : ℕ) → turn h ≡ Owned s → s < m.seats → p < m.object.predicates
-    → not (has_conditions m.kind.mode) ≡ true → MayCall m h (Until s p Stay)
-may_until m h s p t l k o =
-    record {
-      in_range = seat_last _ _ (lt_is s m.seats l) (lt_is p m.object.predicates k);
       offered = o;
       in_turn =
           owned s (turn h) t;

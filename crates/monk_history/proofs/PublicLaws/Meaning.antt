@@ -3,10 +3,7 @@
 
 -- The acts of a legal history are a run of its object, so the laws of the object hold for them
 pub use Rattle.monk_history.proofs.MeaningLaws.ActLaws.{excludes, in_order, serves_each}
--- What a caller knows of the turn lets it call; and which seats are queued
-pub use Rattle.monk_history.proofs.MeaningLaws.CallLaws.{may_leave}
-pub use Rattle.monk_history.proofs.MeaningLaws.CallLaws.{may_signal_leave, may_signal_on}
-pub use Rattle.monk_history.proofs.MeaningLaws.CallLaws.{may_signal_wait, may_until, may_wait}
+pub use Rattle.monk_history.proofs.MeaningLaws.CallLaws.{may_signal_wait}
 pub use Rattle.monk_history.proofs.MeaningLaws.CallLaws.{queued_is}
 -- How one more event changes what is counted seat by seat, and how long lists of few seats are
 pub use Rattle.monk_history.proofs.MeaningLaws.CountLaws.{enters_few, enters_none, enters_of-push, events_of-push}
