@@ -59,9 +59,6 @@ module _ (k : Rules) (o : Object) (answers : ℕ → ℕ → Bool → Type 0) (s
   fault_then ps more crew.Late s = ended_then ps more Late s
   fault_then ps more crew.Busy s = s
 
-  pub wants_memory : (ps : List Token) (fault : CrewFault) → fault ≡ crew.Memory → Faulted ps fault
-  wants_memory ps fault e = subst (Faulted ps) (sym e) tt
-
   -- these seats have been waited for, with this fault so far
   abbrev pub HaveJoined : House → List Token → List Token → Option CrewFault → Type 0
   HaveJoined h ps qs None = Served h ps qs
@@ -117,6 +114,3 @@ if_err (Err e) P Q s f = f e s.1
 
 pub is_memory : (fault : CrewFault) → fault ≡ crew.Memory → IsWantOfRoom fault
 is_memory fault e = subst IsWantOfRoom (sym e) tt
-
-pub is_thread : (fault : CrewFault) → fault ≡ crew.Thread → IsWantOfRoom fault
-is_thread fault e = subst IsWantOfRoom (sym e) tt

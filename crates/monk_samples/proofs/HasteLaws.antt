@@ -1,7 +1,6 @@
 -- What becomes of a hasty visit, try by try
-use Rattle.std.proofs.Common.{◌≡◌, ◌<◌, ℕ, suc, true, false, Result, Ok, Err, arith, Option, Some, [], ◌∷◌, ◌++◌, append_assoc}
+use Rattle.std.proofs.Common.{◌≡◌, ◌<◌, ℕ, suc, true, false, arith, Option, Some, [], ◌∷◌, ◌++◌, append_assoc}
 use Rattle.std.proofs.Common.{refl, ap, ◌∙◌}
-use Rattle.std.specs.Prelude.{IfOk, MatchResult}
 use Rattle.monk_kinds.specs.declared.mode.Rules.{Rules}
 use Rattle.monk_object.specs.Object.{Object}
 use Rattle.monk_history.specs.Meaning.Events.{has_conditions}
@@ -13,12 +12,6 @@ use Rattle.monk_samples.specs.Visits.{Guard, Plan, HasActed, HasLooked, HasMisse
 use Rattle.monk_samples.specs.Visits.{IsLeftWaiting, IsMiss, hasty_guard, wish_in}
 use Rattle.monk_samples.specs.Trails.{Addition, Trail, HasCalled, inside, outside}
 use Rattle.std.proofs.lemmas.Bool.Decides.{nat_tests}
-
--- what follows from an operation if the seat acted
-pub acted_ok : {A E : Type 0} (r : Result A E) (P R : A → Type 0) (Q : E → Type 0) → ((a : A) → P a → R a)
-    → MatchResult r P Q → IfOk r R
-acted_ok (Ok a) P R Q f h = f a h
-acted_ok (Err e) P R Q f h = tt
 
 -- only under a kind with conditions an operation is refused
 pub signalled : (k : Rules) (reply : ℕ) → reply ≡ 0 → (has_conditions k.mode ≡ false → 0 < reply)

@@ -1,7 +1,6 @@
 -- How the rounds of a seat add up
 use Rattle.std.proofs.Common.{◌≡◌, ℕ, zero, suc, ◌+◌, ◌<◌, ◌≤◌, Bool, true, false, nat_le}
 use Rattle.std.proofs.Common.{List, [], ◌∷◌, ◌++◌}
-use Rattle.std.specs.Prelude.{if◌then◌else◌, nat_lt}
 use Rattle.std.proofs.Common.{append_assoc, refl, sym, ap, subst, ◌∙◌, arith}
 use Rattle.std.proofs.lemmas.Bool.{leb-true, leb-false}
 use Rattle.monk_kinds.specs.declared.mode.Rules.{Rules}
@@ -11,7 +10,6 @@ use Rattle.monk_samples.proofs.TrailLaws.{called_none, called_then}
 use Rattle.monk_samples.specs.{Crews.IsOf, Rounds.HasDoneRounds, Rounds.HasWorked, Rounds.rounds_to, Trails.Addition}
 use Rattle.monk_samples.specs.{Trails.HasCalled, Trails.outside, Visits.Plan, Visits.AreVisits, Visits.HasVisited}
 use Rattle.monk_samples.specs.declared.end.End.{End, TheVariants.Done, TheVariants.Tired, TheVariants.Late}
-use Rattle.std.proofs.lemmas.Bool.Decides.{nat_tests}
 
 -- a seat stays one of its hall
 pub still_of : (h : House) (p q : Token) (calls : List Addition) → HasCalled (outside p) (outside q) calls
@@ -20,11 +18,6 @@ still_of h p q calls s of = (s.went.hall ∙ of.0, s.went.setting ∙ of.1)
 
 -- which of two plans a seat has, by the half that it is in
 module _ {X : Type 0} (n seat half : ℕ) (is : n ≡ seat) (a b : X) where
-  pub in_first_half : n < half → a ≡ (if nat_lt seat half then a else b)
-  in_first_half h = grind (arith, nat_tests)
-
-  pub in_other_half : half ≤ n → b ≡ (if nat_lt seat half then a else b)
-  in_other_half h = grind (arith, nat_tests)
 
 module _ (k : Rules) (o : Object) where
   -- some visits, and then others

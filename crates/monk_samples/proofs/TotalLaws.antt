@@ -1,12 +1,12 @@
 -- The totals, with one more event
-use Rattle.std.proofs.Common.{◌≡◌, ℕ, ◌+◌, ◌-◌, ◌≤◌, ◌<◌, ◌==◌, cond, List, [], ◌∷◌, ◌++◌, length, take, drop, subst}
+use Rattle.std.proofs.Common.{◌≡◌, ℕ, ◌+◌, ◌-◌, ◌≤◌, ◌<◌, List, [], ◌∷◌, ◌++◌, length, take, drop, subst}
 use Rattle.std.proofs.Common.{append-nil, slice_index_or, ap, ◌∙◌, arith}
 use Rattle.std.proofs.lemmas.List.{map-append, take_more, take-append-drop, Elements.filter-append, Sums.sum_by-append}
 use Rattle.std.proofs.lemmas.Grind.{flat_map-append}
 use Rattle.std.specs.Prelude.{sum}
-use Rattle.monk_object.specs.{Laws.items_put, Laws.items_taken, Runs.Answered, Runs.times_done}
+use Rattle.monk_object.specs.{Laws.items_taken, Runs.Answered}
 use Rattle.monk_history.specs.{Meaning.Acts.act_of, Meaning.Acts.acts_in, declared.event.Event.Event}
-use Rattle.monk_samples.specs.Totals.{count_done, missed_in, refusals_in, sum_put, sum_taken}
+use Rattle.monk_samples.specs.Totals.{sum_taken}
 use Rattle.std.proofs.lemmas.Bool.Decides.{nat_tests}
 
 last_act : (e : Event) → act_of e ++ [] ≡ act_of e
@@ -15,21 +15,8 @@ last_act e = append-nil (act_of e)
 acts_more : (h : List Event) (e : Event) → acts_in (h ++ e ∷ []) ≡ acts_in h ++ act_of e
 acts_more h e = flat_map-append act_of h (e ∷ []) ∙ ap (λ (xs : List Answered). acts_in h ++ xs) (last_act e)
 
-pub done_more : (code : ℕ) (h : List Event) (e : Event)
-    → count_done code (h ++ e ∷ []) ≡ count_done code h + times_done code (act_of e)
-done_more code h e = grind (arith, nat_tests, acts_more, sum_by-append)
-
-missed_more : (h : List Event) (e : Event) → missed_in (h ++ e ∷ []) ≡ missed_in h + refusals_in (act_of e)
-missed_more h e = ap refusals_in (acts_more h e) ∙ sum_by-append (λ a. cond (a.reply == 0) 1 0) (acts_in h) (act_of e)
-
-items_put_append : (us vs : List Answered) → items_put (us ++ vs) ≡ items_put us ++ items_put vs
-items_put_append us vs = grind (arith, nat_tests, filter-append, map-append)
-
 items_taken_append : (us vs : List Answered) → items_taken (us ++ vs) ≡ items_taken us ++ items_taken vs
 items_taken_append us vs = grind (arith, nat_tests, filter-append, map-append)
-
-pub sum_put_more : (h : List Event) (e : Event) → sum_put (h ++ e ∷ []) ≡ sum_put h + sum (items_put (act_of e))
-sum_put_more h e = grind (arith, nat_tests, acts_more, items_put_append, sum_by-append)
 
 pub sum_taken_more : (h : List Event) (e : Event) → sum_taken (h ++ e ∷ []) ≡ sum_taken h + sum (items_taken (act_of e))
 sum_taken_more h e = grind (arith, nat_tests, acts_more, items_taken_append, sum_by-append)
@@ -37,24 +24,6 @@ sum_taken_more h e = grind (arith, nat_tests, acts_more, items_taken_append, sum
 -- what was taken in a part is no more than in the whole
 pub taken_within : (h more : List Event) → sum_taken h ≤ sum_taken (h ++ more)
 taken_within h more = grind (arith, nat_tests, flat_map-append, items_taken_append, sum_by-append)
-
--- the totals of the events up to a place, and with one more
-pub done_next : (code n count more : ℕ) (h : List Event) (d : Event) → n < length h → count ≡ count_done code (take n h)
-    → times_done code (act_of (slice_index_or h n d)) ≡ more → count + more ≡ count_done code (take (n + 1) h)
-done_next code n count more h d l e m =
-    let next = ap (count_done code) (take_more h n d l) ∙ done_more code (take n h) (slice_index_or h n d) in
-    omega (arith, next, e, m)
-
-pub missed_next : (n count more : ℕ) (h : List Event) (d : Event) → n < length h → count ≡ missed_in (take n h)
-    → refusals_in (act_of (slice_index_or h n d)) ≡ more → count + more ≡ missed_in (take (n + 1) h)
-missed_next n count more h d l e m =
-    let next = ap missed_in (take_more h n d l) ∙ missed_more (take n h) (slice_index_or h n d) in
-    omega (arith, next, e, m)
-
-pub put_next : (n count more : ℕ) (h : List Event) (d : Event) → n < length h → count ≡ sum_put (take n h)
-    → more ≡ sum (items_put (act_of (slice_index_or h n d))) → count + more ≡ sum_put (take (n + 1) h)
-put_next n count more h d l e m = let next = ap sum_put (take_more h n d l)
-    ∙ sum_put_more (take n h) (slice_index_or h n d) in omega (arith, next, e, m)
 
 pub taken_next : (n count more : ℕ) (h : List Event) (d : Event) → n < length h → count ≡ sum_taken (take n h)
     → more ≡ sum (items_taken (act_of (slice_index_or h n d))) → count + more ≡ sum_taken (take (n + 1) h)

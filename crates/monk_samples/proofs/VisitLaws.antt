@@ -260,16 +260,3 @@ module _ (k : Rules) (o : Object) where
     spent = t.spent;
     told = t.told;
   }
-
-  -- a visit that was not done has no visit after it
-  pub visited_once : (p q : Token) (end : End) (v w : Plan) → (end ≡ Done → ⊥) → HasVisited k o p (v ∷ []) q end
-      → HasVisited k o p (v ∷ w ∷ []) q end
-  visited_once p q Done v w undone s = absurd (undone refl)
-  visited_once p q Tired v w undone s =
-      record { calls = s.calls; called = s.called; are = cut s.calls s.are; spent = s.spent; told = s.told }
-    where
-      cut : (calls : List Addition) → AreVisits k o p.me.setting p.me.seat Tired (v ∷ []) calls
-          → AreVisits k o p.me.setting p.me.seat Tired (v ∷ w ∷ []) calls
-      cut calls (inl short) = inl short
-      cut calls (inr then) = absurd then.is_rest
-  visited_once p q Late v w undone s = absurd s.are

@@ -2,9 +2,8 @@ use Rattle.std.proofs.Common.{◌≡◌, true, false, ◌&&◌, arith}
 use Rattle.monk_object.specs.Book as book
 use Rattle.monk_object.specs.{Book.book_meaning}
 use Rattle.monk_samples.proofs.book.end_read.Goals as goal
-use Rattle.monk_samples.proofs.PromiseLaws.{has_code, has_pred}
 use Rattle.monk_samples.proofs.book.end_read.Goals.{then-holds, else-holds, then-writes, else-writes}
-use Rattle.monk_samples.proofs.VisitLaws.{finished_by, tired, visited}
+use Rattle.monk_samples.proofs.VisitLaws.{finished_by, visited}
 use Rattle.monk_samples.specs.{Styles.has_waiting, Visits.data_after}
 use Rattle.monk_samples.specs.Members.{ends_to_read, CAN_READ, CAN_WRITE}
 use Rattle.std.proofs.lemmas.Grind.{common_steps}
@@ -24,16 +23,10 @@ returns-after-writes g c =
     writes reads c.finish.ensures)
 
 pub returns-in-Err : goal.returns-in-Err
-returns-in-Err g c =
-    tired g.K.Kind.rules g.T.Guarded.meaning c.args.pass (ends_to_read g.K.Kind.rules c.args.pass.me.setting)
-    c.in-Err.pass
-    c.in-Err.ensures
+returns-in-Err g c = grind (arith, common_steps)
 
 pub act_now-requires-clause-code : goal.act_now-requires-clause-code
-act_now-requires-clause-code g c κs within =
-    has_code g.T.Guarded.meaning book_meaning c.requires.book g.T.Guarded.CODES 1 g.T.Guarded.codes (omega arith)
+act_now-requires-clause-code g c κs within = grind (arith, common_steps)
 
 pub holds-requires-after_bounds : goal.holds-requires-after_bounds
-holds-requires-after_bounds g c κs within =
-    has_pred g.T.Guarded.meaning book_meaning c.requires.book g.T.Guarded.PREDICATES 1 g.T.Guarded.predicates
-    (omega arith)
+holds-requires-after_bounds g c κs within = grind (arith, common_steps)

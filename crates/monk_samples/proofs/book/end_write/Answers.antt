@@ -1,9 +1,9 @@
 use Rattle.std.proofs.Common.{◌≡◌, true, false, arith}
-use Rattle.monk_object.specs.Book.{book_meaning}
 use Rattle.monk_samples.proofs.book.end_write.Goals as goal
-use Rattle.monk_samples.proofs.{PromiseLaws.has_code, book.end_write.Goals.then-waits, book.end_write.Goals.else-waits}
-use Rattle.monk_samples.proofs.VisitLaws.{finished_by, tired, visited}
+use Rattle.monk_samples.proofs.{book.end_write.Goals.then-waits, book.end_write.Goals.else-waits}
+use Rattle.monk_samples.proofs.VisitLaws.{finished_by, visited}
 use Rattle.monk_samples.specs.{Members.ends_to_write, Members.CAN_READ, Members.CAN_WRITE, Styles.has_waiting}
+use Rattle.std.proofs.lemmas.Grind.{common_steps}
 
 pub returns-after-waits : goal.returns-after-waits
 returns-after-waits g c =
@@ -17,9 +17,7 @@ returns-after-waits g c =
     c.finish.ensures)
 
 pub returns-in-Err : goal.returns-in-Err
-returns-in-Err g c =
-    tired g.K.Kind.rules g.T.Guarded.meaning c.args.pass (ends_to_write g.K.Kind.rules) c.in-Err.pass c.in-Err.ensures
+returns-in-Err g c = grind (arith, common_steps)
 
 pub act_now-requires-clause-code : goal.act_now-requires-clause-code
-act_now-requires-clause-code g c κs within =
-    has_code g.T.Guarded.meaning book_meaning c.requires.book g.T.Guarded.CODES 3 g.T.Guarded.codes (omega arith)
+act_now-requires-clause-code g c κs within = grind (arith, common_steps)

@@ -1,16 +1,13 @@
-use Rattle.std.proofs.Common.{◌≡◌, ℕ, ◌+◌, ◌-◌, true, [], ◌∷◌, refl, ap, ◌∙◌, arith}
-use Rattle.std.{specs.Prelude.nat_lt, proofs.lemmas.Bool.lt-ltb}
+use Rattle.std.proofs.Common.{◌≡◌, ℕ, ◌+◌, ◌-◌, [], ◌∷◌, ap, ◌∙◌, arith}
 use Rattle.monk_object.specs.{Buffer.buffer_meaning, Laws.items_taken}
 use Rattle.monk_samples.proofs.buffer.take.Goals as goal
 use Rattle.monk_samples.proofs.VisitLaws.{tired, tired_tells, visited_telling}
 use Rattle.monk_samples.specs.Members.{takes}
+use Rattle.std.proofs.lemmas.Bool.Decides.{nat_tests}
 
 -- a take with this reply took this item
 took : (reply item : ℕ) → reply ≡ item + 1 → items_taken (record { op = takes.op; reply = reply } ∷ []) ≡ item ∷ []
-took reply item told =
-    let done : nat_lt 0 (item + 1) ≡ true = lt-ltb 0 (item + 1) (omega arith) in
-    let less : item + 1 - 1 ≡ item = omega arith in
-    rw (told, done, less) refl
+took reply item told = grind (arith, nat_tests)
 
 pub returns-in-Ok-clause-visited : goal.returns-in-Ok-clause-visited
 returns-in-Ok-clause-visited g c =

@@ -1,20 +1,15 @@
 use Rattle.std.proofs.Common.{arith}
-use Rattle.monk_object.specs.Buffer.{buffer_meaning}
-use Rattle.monk_samples.proofs.PromiseLaws.{has_code, has_pred, promises, take_promised}
 use Rattle.monk_samples.proofs.buffer.take_hastily.Goals as goal
+use Rattle.std.proofs.lemmas.Grind.{common_steps}
 
 pub returns : goal.returns
 returns g c = c.act_and_finish_in_haste.ensures
 
 pub act_and_finish_in_haste-requires-clause-pred : goal.act_and_finish_in_haste-requires-clause-pred
-act_and_finish_in_haste-requires-clause-pred g c κs within =
-    has_pred g.T.Guarded.meaning buffer_meaning c.requires.buffer g.T.Guarded.PREDICATES 1 g.T.Guarded.predicates
-    (omega arith)
+act_and_finish_in_haste-requires-clause-pred g c κs within = grind (arith, common_steps)
 
 pub act_and_finish_in_haste-requires-clause-code : goal.act_and_finish_in_haste-requires-clause-code
-act_and_finish_in_haste-requires-clause-code g c κs within =
-    has_code g.T.Guarded.meaning buffer_meaning c.requires.buffer g.T.Guarded.CODES 1 g.T.Guarded.codes (omega arith)
+act_and_finish_in_haste-requires-clause-code g c κs within = grind (arith, common_steps)
 
 pub act_and_finish_in_haste-requires-clause-promise : goal.act_and_finish_in_haste-requires-clause-promise
-act_and_finish_in_haste-requires-clause-promise g c κs within =
-    promises g.T.Guarded.meaning buffer_meaning c.requires.buffer _ _ take_promised
+act_and_finish_in_haste-requires-clause-promise g c κs within = grind (arith, common_steps)

@@ -11,7 +11,7 @@ use Rattle.monk_samples.proofs.MeetLaws.{apart_from, still_differ, closed_begins
 use Rattle.monk_samples.proofs.MeetLaws.{holds_operations, came_comes, closed_ends, left_by, nothing_done, only_here}
 use Rattle.monk_samples.proofs.UnclosedLaws.{active_begins, crowded, torn, whole_here}
 use Rattle.monk_samples.proofs.RunLaws.{closed_by}
-use Rattle.monk_samples.specs.{Samples.IsOfFirstVersion, Totals.HasEnded}
+use Rattle.monk_samples.specs.{Samples.IsOfFirstVersion}
 use Rattle.std.proofs.lemmas.Grind.{common_steps}
 
 pub resume-active-requires-after_bounds : goal.resume-active-requires-after_bounds
@@ -60,8 +60,7 @@ returns-in-Ok-clause-closed g c =
     (subst IsOfFirstVersion c.deref.ensures.value (c.if-not-is_whole.ensures.0 refl).early)
 
 pub returns-in-Ok-clause-ended : goal.returns-in-Ok-clause-ended
-returns-in-Ok-clause-ended g c =
-    subst (HasEnded c.args.rota.scenario.sample) c.deref.ensures.value (c.if-not-is_whole.ensures.0 refl).ended
+returns-in-Ok-clause-ended g c = grind (arith, common_steps)
 
 pub returns-in-Ok-clause-whole : goal.returns-in-Ok-clause-whole
 returns-in-Ok-clause-whole g c =

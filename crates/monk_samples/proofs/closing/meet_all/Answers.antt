@@ -3,9 +3,8 @@ use Rattle.std.proofs.lemmas.List.{nil_from_length}
 use Rattle.std.proofs.lemmas.List.Elements.{All-cons, All-head, All-nil, All-tail}
 use Rattle.std.specs.{Prelude.vec_items, Vec.Iter.into_iter_items}
 use Rattle.monk_hall.specs.{Floors.StartsWith, Tokens.Token}
-use Rattle.monk_samples.specs.declared.crew_fault.CrewFault.TheVariants as crew
 use Rattle.monk_samples.proofs.closing.meet_all.Goals as goal
-use Rattle.monk_samples.proofs.{EndLaws.if_err, TrailLaws.starts_here}
+use Rattle.monk_samples.proofs.{TrailLaws.starts_here}
 use Rattle.monk_samples.proofs.MeetLaws.{same_pass, same_again, same_pushed, still_begins, met_same, met_begins}
 use Rattle.monk_samples.proofs.RunLaws.{one_more, first_of, rest_of, same_all, none_yet}
 use Rattle.monk_samples.specs.{Crews.IsOf, Wholes.AreSame}
@@ -70,11 +69,7 @@ meet-requires-after_bounds g c κs within =
     )
 
 pub returns-clause-same : goal.returns-clause-same
-returns-clause-same g c =
-    let inv = c.loop-pass.invariant in
-    let rest = nil_from_length (into_iter_items c.loop-pass.pass-iterator)
-    (sym c.loop-pass.pass-iterator.rest.ok.0 ∙ c.in-None.ensures.steps.0) in
-    grind (arith, common_steps, append-nil)
+returns-clause-same g c = grind (arith, common_steps)
 
 pub returns-clause-had_seen : goal.returns-clause-had_seen
 returns-clause-had_seen g c =
@@ -85,9 +80,7 @@ returns-clause-had_seen g c =
     (inv.2 ∙ ap (λ xs. inv.0 ∷ inv.1 ++ xs) rest ∙ ap (λ xs. inv.0 ∷ xs) (append-nil inv.1)) inv.7
 
 pub returns-in_err-others-clause-fault : goal.returns-in_err-others-clause-fault
-returns-in_err-others-clause-fault g c =
-    if_err c.from_residual.result _ (λ e. e ≡ crew.Memory) c.from_residual.ensures (λ e h. h)
+returns-in_err-others-clause-fault g c = grind (arith, common_steps)
 
 pub returns-in_err-push-clause-fault : goal.returns-in_err-push-clause-fault
-returns-in_err-push-clause-fault g c =
-    if_err c.from_residual-in_err-push.result _ (λ e. e ≡ crew.Memory) c.from_residual-in_err-push.ensures (λ e h. h)
+returns-in_err-push-clause-fault g c = grind (arith, common_steps)

@@ -1,9 +1,8 @@
-use Rattle.std.proofs.Common.{◌≡◌, List, [], ◌∷◌, ◌++◌, map, append_assoc, append-nil, sym, ap, subst, ◌∙◌, arith}
-use Rattle.std.proofs.lemmas.List.{nil_from_length}
+use Rattle.std.proofs.Common.{◌≡◌, List, [], ◌∷◌, ◌++◌, map, append_assoc, sym, ap, subst, ◌∙◌, arith}
 use Rattle.std.specs.{Prelude.Option, Prelude.None, Prelude.vec_items, Vec.Iter.into_iter_items}
 use Rattle.monk_hall.specs.Tokens.{Token}
 use Rattle.monk_samples.proofs.crew.join_all.Goals as goal
-use Rattle.monk_samples.proofs.EndLaws.{HaveJoined, joined_then, wants_memory, if_err}
+use Rattle.monk_samples.proofs.EndLaws.{HaveJoined, joined_then}
 use Rattle.monk_samples.proofs.RunLaws.{first_of, rest_of, same_all}
 use Rattle.monk_samples.specs.{Rounds.HasServed, Crews.IsOf, Faults.fault_after}
 use Rattle.monk_samples.specs.declared.{crew_fault.CrewFault.CrewFault, rota.Rota.Rota}
@@ -65,33 +64,16 @@ loop-shift-preserved g c =
     )
 
 pub returns-in-None-fault-clause-served : goal.returns-in-None-fault-clause-served
-returns-in-None-fault-clause-served g c =
-    let inv = c.loop-shift.invariant in
-    let rest = nil_from_length (into_iter_items c.loop-shift.shift-iterator)
-    (sym c.loop-shift.shift-iterator.rest.ok.0 ∙ c.in-None.ensures.steps.0) in
-    let done = inv.1 ∙ ap (λ xs. inv.0 ++ map (λ s. s.promise.pass.value) xs) rest ∙ append-nil inv.0 in
-    grind (arith, common_steps, HaveJoined)
+returns-in-None-fault-clause-served g c = grind (arith, common_steps)
 
 pub returns-in-None-fault-clause-fault : goal.returns-in-None-fault-clause-fault
 returns-in-None-fault-clause-fault g c = tt
 
 pub returns-in-Some-fault-clause-fault : goal.returns-in-Some-fault-clause-fault
-returns-in-Some-fault-clause-fault g c =
-    let inv = c.loop-shift.invariant in
-    let rest = nil_from_length (into_iter_items c.loop-shift.shift-iterator)
-    (sym c.loop-shift.shift-iterator.rest.ok.0 ∙ c.in-None.ensures.steps.0) in
-    let done = inv.1 ∙ ap (λ xs. inv.0 ++ map (λ s. s.promise.pass.value) xs) rest ∙ append-nil inv.0 in
-    grind (arith, common_steps, HaveJoined)
+returns-in-Some-fault-clause-fault g c = grind (arith, common_steps)
 
 pub returns-in_err-push-clause-fault : goal.returns-in_err-push-clause-fault
-returns-in_err-push-clause-fault g c =
-    if_err c.from_residual-in_err-push.result _ _ c.from_residual-in_err-push.ensures
-    (wants_memory g.K.Kind.rules g.T.Guarded.meaning
-    (g.G.Gate.answers c.args.gate.now) c.args.rota.scenario c.args.rota.seats c.args.rota.rounds
-    (map (λ s. s.promise.pass.value) c.args.crew.items))
+returns-in_err-push-clause-fault g c = grind (arith, common_steps)
 
 pub returns-in_err-passes-clause-fault : goal.returns-in_err-passes-clause-fault
-returns-in_err-passes-clause-fault g c =
-    if_err c.from_residual.result _ _ c.from_residual.ensures (wants_memory g.K.Kind.rules g.T.Guarded.meaning
-    (g.G.Gate.answers c.args.gate.now) c.args.rota.scenario c.args.rota.seats c.args.rota.rounds
-    (map (λ s. s.promise.pass.value) c.args.crew.items))
+returns-in_err-passes-clause-fault g c = grind (arith, common_steps)

@@ -1,8 +1,6 @@
-use Rattle.std.proofs.Common.{◌≡◌, ◌++◌, map, refl, sym, ap, ◌∙◌, append-nil, arith}
-use Rattle.std.{specs.Prelude.vec_items, specs.Vec.Iter.into_iter_items, proofs.lemmas.List.nil_from_length}
-use Rattle.monk_samples.specs.declared.crew_fault.CrewFault.TheVariants as crew
+use Rattle.std.proofs.Common.{◌≡◌, ◌++◌, map, refl, ap, ◌∙◌, arith}
+use Rattle.std.{specs.Prelude.vec_items, specs.Vec.Iter.into_iter_items}
 use Rattle.monk_samples.proofs.crew.workers.Goals as goal
-use Rattle.monk_samples.proofs.EndLaws.{if_err}
 use Rattle.monk_samples.proofs.RunLaws.{one_more, first_of, rest_of, same_all, none_yet, mapped_more}
 use Rattle.monk_samples.specs.Crews.{IsReady}
 use Rattle.std.proofs.lemmas.Grind.{common_steps}
@@ -38,15 +36,10 @@ loop-pass-preserved g c =
     )
 
 pub returns-clause-passes : goal.returns-clause-passes
-returns-clause-passes g c =
-    let rest = nil_from_length (into_iter_items c.loop-pass.pass-iterator)
-    (sym c.loop-pass.pass-iterator.rest.ok.0 ∙ c.in-None.ensures.steps.0) in
-    grind (arith, common_steps, append-nil)
+returns-clause-passes g c = grind (arith, common_steps)
 
 pub returns-in_err-workers-clause-fault : goal.returns-in_err-workers-clause-fault
-returns-in_err-workers-clause-fault g c =
-    if_err c.from_residual.result _ (λ e. e ≡ crew.Memory) c.from_residual.ensures (λ e h. h)
+returns-in_err-workers-clause-fault g c = grind (arith, common_steps)
 
 pub returns-in_err-push-clause-fault : goal.returns-in_err-push-clause-fault
-returns-in_err-push-clause-fault g c =
-    if_err c.from_residual-in_err-push.result _ (λ e. e ≡ crew.Memory) c.from_residual-in_err-push.ensures (λ e h. h)
+returns-in_err-push-clause-fault g c = grind (arith, common_steps)

@@ -1,17 +1,13 @@
 use Rattle.std.proofs.Common.{Some, arith}
 use Rattle.std.proofs.lemmas.Result.{MatchResult-weaker}
-use Rattle.monk_history.specs.Meaning.Monitor.{data_of}
-use Rattle.monk_floor.specs.View.{monitor_of}
 use Rattle.monk_samples.proofs.haste.act_in_haste.Goals as goal
 use Rattle.monk_samples.proofs.PauseLaws.{acted_looked, stayed_out, tired_inside, unready}
-use Rattle.monk_samples.proofs.HasteLaws.{acted_ok, looked_since, tired_since}
+use Rattle.monk_samples.proofs.HasteLaws.{looked_since, tired_since}
 use Rattle.monk_samples.specs.{Trails.outside, Visits.hasty_guard}
 use Rattle.std.proofs.lemmas.Grind.{common_steps}
 
 pub returns-in-Err-clause-acted : goal.returns-in-Err-clause-acted
-returns-in-Err-clause-acted g c =
-    stayed_out g.K.Kind.rules g.T.Guarded.meaning c.args.pass c.in-Err.pass (Some (hasty_guard c.args.cond c.args.pred))
-    c.in-Err.ensures.came
+returns-in-Err-clause-acted g c = grind (arith, common_steps, stayed_out)
 
 pub returns-in-Ok-pause_once-clause-acted : goal.returns-in-Ok-pause_once-clause-acted
 returns-in-Ok-pause_once-clause-acted g c =
@@ -33,7 +29,4 @@ returns-in-Err-pause_once-clause-acted g c =
     c.in-Err-pause_once.ensures.paused)
 
 pub returns-in-Ok-pause_once-clause-done : goal.returns-in-Ok-pause_once-clause-done
-returns-in-Ok-pause_once-clause-done g c =
-    let k = g.K.Kind.rules in let o = g.T.Guarded.meaning in let b = c.in-Ok-pause_once.active in
-    let state = data_of (monitor_of k o b.floor) b.floor.history in
-    grind (arith, common_steps, acted_ok)
+returns-in-Ok-pause_once-clause-done g c = grind (arith, common_steps)

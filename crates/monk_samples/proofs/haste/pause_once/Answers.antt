@@ -1,16 +1,15 @@
-use Rattle.std.proofs.Common.{◌≡◌, false, Some}
+use Rattle.std.proofs.Common.{◌≡◌, false, Some, arith}
 use Rattle.std.proofs.lemmas.Result.{MatchResult-weaker}
 use Rattle.monk_history.specs.Meaning.Monitor.{data_of}
 use Rattle.monk_floor.specs.View.{monitor_of}
 use Rattle.monk_samples.proofs.haste.pause_once.Goals as goal
 use Rattle.monk_samples.proofs.{ShortLaws.still_pauses, TrailLaws.called_none}
 use Rattle.monk_samples.proofs.PauseLaws.{left_after, looked_first, looked_none, paused_none}
-use Rattle.monk_samples.specs.{Styles.Holds, Trails.inside, Visits.hasty_guard}
+use Rattle.monk_samples.specs.{Trails.inside, Visits.hasty_guard}
+use Rattle.std.proofs.lemmas.Grind.{common_steps}
 
 pub returns-then-holds-clause-paused : goal.returns-then-holds-clause-paused
-returns-then-holds-clause-paused g c = let a = c.args.active in
-    let held : Holds g.K.Kind.rules g.T.Guarded.meaning c.args.pred a = cc in
-    looked_none g.K.Kind.rules g.T.Guarded.meaning (inside a) c.args.cond c.args.pred a (called_none (inside a)) held
+returns-then-holds-clause-paused g c = grind (arith, common_steps, looked_none, called_none)
 
 pub returns-clause-paused : goal.returns-clause-paused
 returns-clause-paused g c =

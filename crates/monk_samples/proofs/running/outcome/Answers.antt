@@ -1,7 +1,8 @@
-use Rattle.std.proofs.Common.{sym, ap, subst, ◌∙◌}
-use Rattle.monk_samples.specs.Totals.{HasTotals, totals_of}
+use Rattle.std.proofs.Common.{ap, ◌∙◌, arith}
+use Rattle.monk_samples.specs.Totals.{totals_of}
 use Rattle.monk_samples.proofs.RunLaws.{law_here, outcome_of}
 use Rattle.monk_samples.proofs.running.outcome.Goals as goal
+use Rattle.std.proofs.lemmas.Grind.{common_steps}
 
 pub totals_of-totals-requires-clause-law : goal.totals_of-totals-requires-clause-law
 totals_of-totals-requires-clause-law g c =
@@ -9,10 +10,7 @@ totals_of-totals-requires-clause-law g c =
     c.deref.result.now c.deref.ensures.value c.requires
 
 pub returns-clause-totals : goal.returns-clause-totals
-returns-clause-totals g c =
-    subst (HasTotals c.args.rota.scenario.sample c.args.rota.seats c.args.rota.rounds)
-    (sym (c.totals_of-totals.ensures ∙ ap (totals_of c.args.rota.scenario.sample) c.deref.ensures.value))
-    c.requires.totals
+returns-clause-totals g c = grind (arith, common_steps)
 
 pub returns-clause-outcome : goal.returns-clause-outcome
 returns-clause-outcome g c =

@@ -1,6 +1,6 @@
-use Rattle.std.proofs.Common.{ap, subst, ◌∙◌, ◌<◌, ◌≤◌, List, ℕ, length, arith}
+use Rattle.std.proofs.Common.{ap, subst, ◌∙◌, ◌≤◌, List, ℕ, arith, rules}
 use Rattle.monk_object.specs.Object.{Object}
-use Rattle.monk_hall.specs.{Rule.setting_of, Tokens.Token}
+use Rattle.monk_hall.specs.{Rule.setting_of}
 use Rattle.monk_samples.proofs.running.run_over.Goals as goal
 use Rattle.monk_samples.proofs.{MeetLaws.seats_differ, HistoryLaws.left_history, RunLaws.if_fault, RunLaws.if_four}
 use Rattle.monk_samples.proofs.RunEndLaws.{some_pass, back_of, some_back, has_closed, close_fault}
@@ -18,26 +18,10 @@ close_by-requires-clause-of g c κs within =
     grind (arith, common_steps, back_of)
 
 pub close_by-requires-clause-some : goal.close_by-requires-clause-some
-close_by-requires-clause-some g c κs within =
-    let served =
-    subst (λ (o : Object). HaveServed g.K.Kind.rules o
-    (g.G.Gate.answers c.args.gate.now) c.args.rota.scenario c.args.rota.seats
-    c.args.rota.rounds c.in_ok-hall.hall c.in_ok-hall.passes.items c.in_ok-passes.passes.items) c.requires.object
-    c.in_ok-passes.ensures.served in
-    let seats : 2 ≤ c.in_ok-hall.hall.setting.seats = grind (arith, common_steps) in
-    let some : 0 < length c.in_ok-hall.passes.items = grind (arith, common_steps, some_pass) in
-    grind (arith, common_steps, some_back)
+close_by-requires-clause-some g c κs within = grind (arith, common_steps, some_pass, some_back)
 
 pub close_by-requires-clause-apart : goal.close_by-requires-clause-apart
-close_by-requires-clause-apart g c κs within =
-    seats_differ g.K.Kind.rules g.T.Guarded.meaning (g.G.Gate.answers c.args.gate.now) c.args.rota.scenario
-    c.args.rota.seats c.args.rota.rounds
-    c.in_ok-hall.hall c.in_ok-hall.hall.id c.in_ok-hall.hall.setting c.in_ok-hall.hall.setting.seats 0
-    c.in_ok-passes.passes.items
-    (subst (λ (ps : List Token). HaveServed g.K.Kind.rules g.T.Guarded.meaning
-    (g.G.Gate.answers c.args.gate.now) c.args.rota.scenario c.args.rota.seats
-    c.args.rota.rounds c.in_ok-hall.hall ps c.in_ok-passes.passes.items) c.in_ok-hall.ensures.passes
-    c.in_ok-passes.ensures.served)
+close_by-requires-clause-apart g c κs within = search (rules, seats_differ)
 
 pub returns-clause-left : goal.returns-clause-left
 returns-clause-left g c =

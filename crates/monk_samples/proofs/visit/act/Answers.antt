@@ -3,6 +3,7 @@ use Rattle.monk_samples.proofs.visit.act.Goals as goal
 use Rattle.monk_samples.proofs.{StyleLaws.given_up, PauseLaws.acted_now, PauseLaws.left_after, PauseLaws.paused_none}
 use Rattle.monk_samples.proofs.TrailLaws.{called_none, replied}
 use Rattle.monk_samples.specs.Trails.{inside}
+use Rattle.std.proofs.lemmas.Grind.{common_steps}
 
 pub returns-then-left-lt2-clause-acted : goal.returns-then-left-lt2-clause-acted
 returns-then-left-lt2-clause-acted g c =
@@ -13,10 +14,4 @@ returns-then-left-lt2-clause-acted g c =
     2 (given_up k o a _ _ c.leave.result 2 c.leave.ensures short (omega arith) (omega arith)) (omega arith)
 
 pub returns-clause-acted : goal.returns-clause-acted
-returns-clause-acted g c =
-    let k = g.K.Kind.rules in let o = g.T.Guarded.meaning in (
-      acted_now k o c.args.active c.args.op c.act-reply.result c.act-reply.new.self c.act-reply.ensures.done
-          c.left.ensures.floor,
-      replied k o c.args.active c.args.active.me.seat c.args.op c.act-reply.result c.act-reply.new.self
-          c.act-reply.ensures.done,
-    )
+returns-clause-acted g c = grind (arith, common_steps, acted_now, replied)

@@ -2,6 +2,8 @@ use Rattle.std.proofs.{Common.refl, Common.Some, lemmas.Result.MatchResult-weake
 use Rattle.monk_samples.proofs.visit.come_in_when.Goals as goal
 use Rattle.monk_samples.proofs.PauseLaws.{paused_none, paused_then, stayed_out, tired_after, unready}
 use Rattle.monk_samples.specs.{Trails.outside, Visits.guard}
+use Rattle.std.proofs.lemmas.Grind.{common_steps}
+use Rattle.std.proofs.Common.{arith}
 
 pub returns-in-Ok : goal.returns-in-Ok
 returns-in-Ok g c =
@@ -12,6 +14,4 @@ returns-in-Ok g c =
     (λ q t. unready k o (outside p) w q (tired_after k o (outside p) w refl a q came t))
 
 pub returns-in-Err : goal.returns-in-Err
-returns-in-Err g c =
-    stayed_out g.K.Kind.rules g.T.Guarded.meaning c.args.pass c.in-Err.pass
-    (Some (guard c.args.cond c.args.pred)) c.in-Err.ensures.came
+returns-in-Err g c = grind (arith, common_steps, stayed_out)

@@ -1,4 +1,4 @@
-use Rattle.std.proofs.Common.{◌≡◌, false, refl, Some, arith}
+use Rattle.std.proofs.Common.{◌≡◌, false, Some, arith}
 use Rattle.monk_history.specs.Meaning.Monitor.{data_of}
 use Rattle.monk_floor.specs.View.{monitor_of}
 use Rattle.monk_samples.proofs.visit.pause_until.Goals as goal
@@ -8,12 +8,10 @@ use Rattle.monk_samples.specs.{Trails.inside, Visits.guard}
 use Rattle.std.proofs.lemmas.Grind.{common_steps}
 
 pub loop-active-init : goal.loop-active-init
-loop-active-init g c = let a = c.args.active in
-    grind (arith, common_steps, paused_none, called_none)
+loop-active-init g c = grind (arith, common_steps, paused_none, called_none)
 
 pub loop-active-preserved : goal.loop-active-preserved
-loop-active-preserved g c = paused_once g.K.Kind.rules g.T.Guarded.meaning (inside c.args.active)
-    (guard c.args.cond c.args.pred) refl c.loop-active.active c.in-Ok.back c.loop-active.invariant c.in-Ok.ensures cc
+loop-active-preserved g c = grind (arith, common_steps, paused_once)
 
 pub returns-in-Err : goal.returns-in-Err
 returns-in-Err g c =

@@ -1,23 +1,17 @@
-use Rattle.std.proofs.Common.{sym, ap, subst, ◌∙◌}
-use Rattle.monk_object.specs.Names.{meaning_named}
+use Rattle.std.proofs.Common.{sym, subst, arith}
 use Rattle.monk_samples.proofs.crew.round.do_round.Goals as goal
-use Rattle.monk_samples.specs.{Rounds.visits_of, Samples.sample_object, Visits.HasVisited}
+use Rattle.monk_samples.specs.{Rounds.visits_of, Visits.HasVisited}
 use Rattle.monk_samples.specs.{declared.sample.Sample.Sample}
+use Rattle.std.proofs.lemmas.Grind.{common_steps}
 
 pub trade-requires-clause-object : goal.trade-requires-clause-object
-trade-requires-clause-object g c κs within =
-    c.requires.object ∙ ap (λ (s : Sample). meaning_named (sample_object s)) c.in-Buffer.is
+trade-requires-clause-object g c κs within = grind (arith, common_steps)
 
 pub returns-in-Buffer-clause-visited : goal.returns-in-Buffer-clause-visited
-returns-in-Buffer-clause-visited g c =
-    subst (λ (s : Sample). HasVisited g.K.Kind.rules g.T.Guarded.meaning c.args.pass
-    (visits_of s c.args.rota.scenario.manner g.K.Kind.rules c.args.pass.me.setting c.args.rota.seats
-    c.args.pass.me.seat c.args.round)
-    c.trade.result.0 c.trade.result.1) (sym c.in-Buffer.is) c.trade.ensures.visited
+returns-in-Buffer-clause-visited g c = grind (arith, common_steps)
 
 pub use_book-requires-clause-object : goal.use_book-requires-clause-object
-use_book-requires-clause-object g c κs within =
-    c.requires.object ∙ ap (λ (s : Sample). meaning_named (sample_object s)) c.in-Book.is
+use_book-requires-clause-object g c κs within = grind (arith, common_steps)
 
 pub returns-in-Book-clause-visited : goal.returns-in-Book-clause-visited
 returns-in-Book-clause-visited g c =
@@ -27,8 +21,7 @@ returns-in-Book-clause-visited g c =
     c.use_book.result.0 c.use_book.result.1) (sym c.in-Book.is) (c.use_book.ensures.visited c.args.round)
 
 pub visit_shop-requires-clause-object : goal.visit_shop-requires-clause-object
-visit_shop-requires-clause-object g c κs within =
-    c.requires.object ∙ ap (λ (s : Sample). meaning_named (sample_object s)) c.in-Shop.is
+visit_shop-requires-clause-object g c κs within = grind (arith, common_steps)
 
 pub returns-in-Shop-clause-visited : goal.returns-in-Shop-clause-visited
 returns-in-Shop-clause-visited g c =

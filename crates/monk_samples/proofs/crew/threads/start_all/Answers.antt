@@ -1,26 +1,13 @@
-use Rattle.std.proofs.Common.{◌≡◌, ◌∷◌, ◌++◌, map, sym, ap, ◌∙◌, append-nil, arith}
-use Rattle.std.{specs.Prelude.vec_items, specs.Vec.Iter.into_iter_items, proofs.lemmas.List.nil_from_length}
+use Rattle.std.proofs.Common.{◌≡◌, ◌∷◌, map, sym, ap, ◌∙◌, arith, rules}
+use Rattle.std.{specs.Prelude.vec_items, specs.Vec.Iter.into_iter_items}
 use Rattle.monk_samples.proofs.crew.threads.start_all.Goals as goal
-use Rattle.monk_samples.proofs.EndLaws.{if_err, is_memory, is_thread}
+use Rattle.monk_samples.proofs.EndLaws.{if_err, is_memory}
 use Rattle.monk_samples.proofs.RunLaws.{one_more, first_of, rest_of, same_all, none_yet, mapped_more}
 use Rattle.monk_samples.specs.Crews.{IsReady}
 use Rattle.std.proofs.lemmas.Grind.{common_steps}
 
 pub loop-worker-init : goal.loop-worker-init
-loop-worker-init g c =
-    let e : into_iter_items c.into_iter-worker-iterator.result ≡ vec_items c.args.workers =
-    c.into_iter-worker-iterator.ensures.into_iter_gives.0 in (
-      none_yet (vec_items c.in_ok-crew.crew)
-          (λ s. (s.promise.hall.value ≡ c.args.hall.now) × (s.promise.gate.value ≡ c.args.gate.now)
-          × (s.promise.rota.value ≡ c.args.rota))
-          c.in_ok-crew.ensures.items,
-      ap (λ ss. map (λ s. s.promise.pass.value) ss
-          ++ map (λ w. w.pass) (into_iter_items c.into_iter-worker-iterator.result))
-          c.in_ok-crew.ensures.items ∙ ap (λ ws. map (λ w. w.pass) ws) e,
-      same_all (into_iter_items c.into_iter-worker-iterator.result) (vec_items c.args.workers)
-          (λ w. ((w.hall.now ≡ c.args.hall.now) × IsReady g.K.Kind.rules c.args.hall.now w.pass)
-          × (w.gate.now ≡ c.args.gate.now) × (w.rota ≡ c.args.rota)) e c.requires.each,
-    )
+loop-worker-init g c = search (rules, none_yet, same_all)
 
 pub loop-worker-preserved : goal.loop-worker-preserved
 loop-worker-preserved g c =
@@ -47,19 +34,13 @@ loop-worker-preserved g c =
     )
 
 pub returns-clause-passes : goal.returns-clause-passes
-returns-clause-passes g c =
-    let rest = nil_from_length (into_iter_items c.loop-worker.worker-iterator)
-    (sym c.loop-worker.worker-iterator.rest.ok.0 ∙ c.in-None.ensures.steps.0) in
-    grind (arith, common_steps, append-nil)
+returns-clause-passes g c = grind (arith, common_steps)
 
 pub returns-in_err-crew-clause-fault : goal.returns-in_err-crew-clause-fault
 returns-in_err-crew-clause-fault g c = if_err c.from_residual.result _ _ c.from_residual.ensures is_memory
 
 pub returns-in_err-push-clause-fault : goal.returns-in_err-push-clause-fault
-returns-in_err-push-clause-fault g c =
-    if_err c.from_residual-in_err-push.result _ _ c.from_residual-in_err-push.ensures is_memory
+returns-in_err-push-clause-fault g c = grind (arith, common_steps)
 
 pub returns-in_err-start-clause-fault : goal.returns-in_err-start-clause-fault
-returns-in_err-start-clause-fault g c =
-    if_err c.from_residual-in_err-start.result _ _ c.from_residual-in_err-start.ensures
-    (λ e h. is_thread e (h ∙ c.in_err-start.ensures.fault))
+returns-in_err-start-clause-fault g c = grind (arith, common_steps)

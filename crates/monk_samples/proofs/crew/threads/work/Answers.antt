@@ -1,7 +1,7 @@
-use Rattle.std.proofs.Common.{rules, ◌≡◌, ℕ, true, false, ◌∙◌, arith}
+use Rattle.std.proofs.Common.{rules, ◌≡◌, ℕ, true, arith}
 use Rattle.monk_hall.specs.declared.setting.Setting.{Setting}
-use Rattle.monk_samples.specs.Rounds.{round_of, rounds_of}
-use Rattle.monk_samples.proofs.RoundLaws.{no_round, round_done, round_short, sent_away, all_done}
+use Rattle.monk_samples.specs.Rounds.{round_of}
+use Rattle.monk_samples.proofs.RoundLaws.{no_round, round_done}
 use Rattle.monk_samples.proofs.crew.threads.work.Goals as goal
 use Rattle.std.proofs.lemmas.Grind.{common_steps}
 
@@ -25,22 +25,10 @@ loop-done-preserved g c =
     )
 
 pub returns-in_default-clause-served : goal.returns-in_default-clause-served
-returns-in_default-clause-served g c =
-    let k = g.K.Kind.rules in let w = c.args.worker in let let_in : c.pass.result ≡ true = search rules in
-    let all = c.rounds_of-done-end.ensures
-    ∙ (λ i. rounds_of w.rota.scenario.sample w.rota.seats w.rota.rounds (c.seat-seat.ensures i)) in
-    grind (arith, common_steps, round_short)
+returns-in_default-clause-served g c = grind (arith, common_steps)
 
 pub returns-then-not-pass-clause-served : goal.returns-then-not-pass-clause-served
-returns-then-not-pass-clause-served g c =
-    let k = g.K.Kind.rules in let w = c.args.worker in let away : c.pass.result ≡ false = search rules in
-    let all = c.rounds_of-done-end.ensures
-    ∙ (λ i. rounds_of w.rota.scenario.sample w.rota.seats w.rota.rounds (c.seat-seat.ensures i)) in
-    grind (arith, common_steps, sent_away)
+returns-then-not-pass-clause-served g c = grind (arith, common_steps)
 
 pub returns-clause-served : goal.returns-clause-served
-returns-clause-served g c =
-    let k = g.K.Kind.rules in let w = c.args.worker in
-    let all = c.rounds_of-done-end.ensures
-    ∙ (λ i. rounds_of w.rota.scenario.sample w.rota.seats w.rota.rounds (c.seat-seat.ensures i)) in
-    grind (arith, common_steps, all_done)
+returns-clause-served g c = grind (arith, common_steps)

@@ -1,9 +1,8 @@
-use Rattle.std.proofs.{Common.List, Common.sym, Common.subst, lemmas.List.Elements.All-pop}
-use Rattle.std.specs.Prelude.{option_to_list}
+use Rattle.std.proofs.{Common.List, Common.subst, lemmas.List.Elements.All-pop}
 use Rattle.monk_hall.specs.Tokens.{Token}
 use Rattle.monk_samples.proofs.crew.threads.work_all.Goals as goal
 use Rattle.monk_samples.proofs.{EndLaws.all_served, EndLaws.fault_then, EndLaws.if_err, RunLaws.if_ok}
-use Rattle.monk_samples.specs.{Crews.IsReady, Ends.HaveServed, Ends.IsFaultOfCrew}
+use Rattle.monk_samples.specs.{Crews.IsReady, Ends.HaveServed}
 use Rattle.std.proofs.lemmas.Grind.{common_steps}
 use Rattle.std.proofs.Common.{arith}
 
@@ -13,21 +12,7 @@ workers-requires-after_bounds g c κs within =
     c.part_idle-working.result.1 c.part_idle-working.ensures.all c.requires.ready).0
 
 pub returns-in_err-back-clause-fault : goal.returns-in_err-back-clause-fault
-returns-in_err-back-clause-fault g c =
-    let fault =
-    fault_then g.K.Kind.rules g.T.Guarded.meaning (g.G.Gate.answers c.args.gate.now) c.args.rota.scenario
-    c.args.rota.seats
-    c.args.rota.rounds c.part_idle-working.result.0.items
-    (option_to_list c.part_idle-working.result.1) c.in_err-back.field-0.0
-    (subst (λ (ps : List Token). IsFaultOfCrew g.K.Kind.rules g.T.Guarded.meaning
-    (g.G.Gate.answers c.args.gate.now) c.args.rota.scenario
-    c.args.rota.seats c.args.rota.rounds ps c.in_err-back.field-0.0) c.in_ok-workers.ensures.passes
-    c.in_err-back.ensures.1.1) in
-    let all = subst (λ (ps : List Token). IsFaultOfCrew g.K.Kind.rules g.T.Guarded.meaning
-    (g.G.Gate.answers c.args.gate.now)
-    c.args.rota.scenario c.args.rota.seats c.args.rota.rounds ps c.in_err-back.field-0.0)
-    (sym c.part_idle-working.ensures.all) fault in
-    grind (arith, common_steps, if_err)
+returns-in_err-back-clause-fault g c = grind (arith, common_steps, fault_then, if_err)
 
 pub returns-clause-served : goal.returns-clause-served
 returns-clause-served g c =

@@ -2,6 +2,7 @@ use Rattle.std.proofs.Common.{arith, ◌<◌, ◌+◌, ◌≤◌, length, refl}
 use Rattle.monk_history.specs.declared.event.{Event.TheVariants.Until, Next.TheVariants.Stay}
 use Rattle.monk_samples.proofs.styles.automatic.pause.Goals as goal
 use Rattle.monk_samples.proofs.{StyleLaws.went_on, StyleLaws.given_up, StyleLaws.paused, AwaitLaws.until_held}
+use Rattle.std.proofs.lemmas.Grind.{common_steps}
 
 pub returns-then-left-lt3-clause-paused : goal.returns-then-left-lt3-clause-paused
 returns-then-left-lt3-clause-paused g c =
@@ -21,7 +22,4 @@ returns-clause-paused g c =
     c.plain_until.ensures c.go_on.ensures)
 
 pub returns-clause-holds : goal.returns-clause-holds
-returns-clause-holds g c =
-    until_held g.K.Kind.rules g.T.Guarded.meaning c.args.pred c.args.wish c.plain_until.result c.args.active _
-    c.go_on.result c.plain_until.ensures c.go_on.ensures (λ m h l. c.untils_were_false.ensures.each m h l)
-    (λ m h l. c.the_predicate_holds.ensures m h l)
+returns-clause-holds g c = grind (arith, common_steps, until_held)
