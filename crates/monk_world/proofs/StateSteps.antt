@@ -1,24 +1,24 @@
 -- From the change of the words and the floor to a step of the state
 use Rattle.std.proofs.Common.{◌≡◌, ℕ, ◌+◌, ◌%◌, ◌==◌, ◌<◌, cond, Bool, true, false, length, ◌||◌}
-use Rattle.std.proofs.Common.{sym, ap, eq-eqb, ◌∙◌, subst, arith}
+use Rattle.std.proofs.Common.{sym, ap, ◌∙◌, subst, arith}
 use Rattle.std.proofs.lemmas.Bool.{eqb-true, cases_lt}
 use Rattle.std.specs.Prelude.{nat_le, slice_index_or, Some, None}
 use Rattle.monk_kinds.specs.{Kind.IsKind, declared.mode.Pick.Pick, declared.mode.Rules.Rules}
 use Rattle.monk_object.specs.{Object.Object, declared.op.Op.Op}
 use Rattle.monk_history.specs.declared.event.Next.TheVariants as next
 use Rattle.monk_history.proofs.PublicLaws.Meaning.{legal_last}
-use Rattle.monk_history.specs.Meaning.{Conditions.condition, Events.is_stay, Monitor.data_of, Situation.Situation}
+use Rattle.monk_history.specs.Meaning.{Conditions.condition, Events.is_stay, Monitor.data_of}
 use Rattle.monk_history.specs.Meaning.{Release.with_next, Turn.turn}
-use Rattle.monk_history.specs.Meaning.Reasons.{IsAllowed, fits_turn, is_in_place, is_owned_by}
-use Rattle.monk_history.specs.declared.event.{Next.Next, Turn.Turn}
+use Rattle.monk_history.specs.Meaning.Reasons.{IsAllowed}
+use Rattle.monk_history.specs.declared.event.{Next.Next}
 use Rattle.monk_history.specs.declared.event.Event.{Event, TheVariants.Act, TheVariants.SignalAll}
-use Rattle.monk_floor.specs.{Grown.IsGrown, Releases.MayCallOn, View.FloorView, View.monitor_of}
+use Rattle.monk_floor.specs.{Grown.IsGrown, View.FloorView, View.monitor_of}
 use Rattle.monk_world.specs.declared.answer.Answer.TheVariants as answer
 use Rattle.monk_world.specs.declared.command.Command.TheVariants as command
 use Rattle.monk_world.proofs.{BoundLaws.few_drawn, SoundFloor.sound_out}
 use Rattle.monk_world.proofs.DoneLaws.{IsReady, ready, kept_done}
 use Rattle.monk_world.specs.{Kept.IsKept, Update.update, State.State, State.with_event}
-use Rattle.monk_world.specs.StepTable.{may_be_told, call_of, names_entry, is_back}
+use Rattle.monk_world.specs.StepTable.{may_be_told, names_entry, is_back}
 use Rattle.monk_world.specs.StepTable.{refusal, release_next, out_event, IsDone, IsReleased}
 use Rattle.monk_world.specs.Steps.{after_arrive, after_ticket_look, after_seat_look, after_floor_out, after_floor_in}
 use Rattle.monk_world.specs.Steps.{after_drop, after_ticket_grant, after_seat_grant}
@@ -208,17 +208,6 @@ module _ (k : Rules) (o : Object) (w : WorldWords) (f : FloorView) (v : WorldVie
   at_active c a t free active d =
       let at = active_is (s.world.place i) (sym active ∙ (ready_here c free).told) in
       at_place (Active at.source) c a t at.is (d at.source)
-
-  -- an active seat that no refusal stops may call the floor
-  pub may_call : (c : Command) (e : Event) (conds : ℕ) → IsKept k o w.seats conds s
-      → refusal k o (state_of_view v) i c ≡ None → call_of i c ≡ Some e
-      → may_be_told (s.world.place i) c ≡ (stage (s.world.place i) == active_stage)
-      → ((u : Turn) → fits_turn u e ≡ is_owned_by i u) → ((t : Situation) → is_in_place o t e ≡ true)
-      → MayCallOn k o f e
-  may_call c e conds old free names active owns places =
-      let r = ready_here c free in
-      let mine = old.sound.is_sound.active i (eqb-true _ _ (sym active ∙ r.told)) in
-      grind (arith, nat_tests, eq-eqb)
 
   -- a release is done as its command says, and keeps what a world keeps
   pub release_done : {x : Next} {known : Bool} {a : Answer} {new : WorldWords} {g : FloorView} (c : Command) (e : Event)

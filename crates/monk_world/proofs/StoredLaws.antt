@@ -69,9 +69,6 @@ module _ (w : WorldWords) (i : ℕ) (near : i < w.seats) where
           (update_same (world_on w).place i ((world_on w).place i) refl)
       same_world false = refl
 
-  pub ticket_read : (x : ℕ) → x ≡ get_or w.ticket_places.items i x → x ≡ (world_on w).ticket_place i
-  ticket_read x e = get_or_read w.ticket_places.items i x (omega (arith, near, w.has_tickets, w.ticket_places.ok.0)) e 0
-
   pub call_read : (x : ℕ) → x ≡ get_or w.seat_places.items i x → x ≡ (world_on w).seat_place i
   call_read x e = get_or_read w.seat_places.items i x (omega (arith, near, w.has_seats, w.seat_places.ok.0)) e 0
 

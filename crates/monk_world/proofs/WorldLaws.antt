@@ -9,9 +9,7 @@ use Rattle.monk_history.specs.Meaning.Counts.{left_of, events_of}
 use Rattle.monk_floor.specs.Making as make
 use Rattle.monk_floor.specs.declared.fault.MakeFault.TheVariants as fault
 use Rattle.monk_floor.specs.View.{FloorView, empty_floor}
-use Rattle.monk_world.specs.Telling as telling
 use Rattle.monk_world.specs.declared.answer.Answer.TheVariants as answer
-use Rattle.monk_world.specs.declared.command.Command.TheVariants as command
 use Rattle.monk_world.proofs.RunLaws.{opening_is_sound}
 use Rattle.monk_world.specs.{Runs.opening_state, Stands.opening_world, Kept.IsKept, State.State, WorldViews.state_in}
 use Rattle.monk_world.specs.StepTable.{may_be_told, is_call_in_range, is_call_offered, call_of, left_for, refusal}
@@ -94,50 +92,3 @@ not_refused k o s i c reach offered told enough =
     by_tests true false d e x y z u = absurd cc
     by_tests true true false e x y z u = absurd cc
     by_tests true true true true x y z u = absurd cc
-
-both : (a b : Bool) → a ≡ true → b ≡ true → (a && b) ≡ true
-both true b e x = x
-both false b e x = absurd cc
-
-both_last : (a x : Bool) → a ≡ true → x ≡ true → (a && ((a && true) && true && true && x)) ≡ true
-both_last true true e f = refl
-both_last false x e f = absurd cc
-both_last true false e f = absurd cc
-
-both_none : (a x : Bool) → a ≡ true → x ≡ true → (a && ((a && true) && true && true && true)) ≡ true
-both_none true x e f = refl
-both_none false x e f = absurd cc
-
-both_third : (a x : Bool) → a ≡ true → x ≡ true → (a && ((a && true) && x && true && true)) ≡ true
-both_third true true e f = refl
-both_third false x e f = absurd cc
-both_third true false e f = absurd cc
-
-both_fourth : (a x : Bool) → a ≡ true → x ≡ true → (a && ((a && true) && true && x && true)) ≡ true
-both_fourth true true e f = refl
-both_fourth false x e f = absurd cc
-both_fourth true false e f = absurd cc
-
-both_conds : (a x y : Bool) → a ≡ true → (x && y) ≡ true → (a && ((a && true) && y && x && true)) ≡ true
-both_conds true true true e f = refl
-both_conds false x y e f = absurd cc
-both_conds true false y e f = absurd cc
-both_conds true true false e f = absurd cc
-
-pub reaches : (o : Object) (f : FloorView) (i : ℕ) (c : Command) → nat_lt i f.seats ≡ true
-    → telling.is_command_in_range f.conds o.codes o.predicates c ≡ true
-    → (nat_lt i f.seats && is_call_in_range o f (call_of i c)) ≡ true
-reaches o f i command.Arrive here fits = both (nat_lt i f.seats) true here refl
-reaches o f i command.Look here fits = both (nat_lt i f.seats) true here refl
-reaches o f i command.Out here fits = both (nat_lt i f.seats) true here refl
-reaches o f i command.Peek here fits = both (nat_lt i f.seats) true here refl
-reaches o f i command.Drop here fits = both (nat_lt i f.seats) true here refl
-reaches o f i command.Grant here fits = both (nat_lt i f.seats) true here refl
-reaches o f i (command.Act op) here fits = both_last (nat_lt i f.seats) _ here fits
-reaches o f i (command.Leave pick) here fits = both_none (nat_lt i f.seats) _ here fits
-reaches o f i (command.Wait c pick) here fits = both_third (nat_lt i f.seats) _ here fits
-reaches o f i (command.Signal c pick) here fits = both_fourth (nat_lt i f.seats) _ here fits
-reaches o f i (command.SignalLeave c pick) here fits = both_fourth (nat_lt i f.seats) _ here fits
-reaches o f i (command.Until p pick) here fits = both_last (nat_lt i f.seats) _ here fits
-reaches o f i (command.SignalAll c) here fits = both_fourth (nat_lt i f.seats) _ here fits
-reaches o f i (command.SignalWait c d pick) here fits = both_conds (nat_lt i f.seats) _ _ here fits

@@ -4,6 +4,4 @@ use Rattle.monk_world.{proofs.StoredLaws.place_stored}
 use Rattle.std.proofs.lemmas.Grind.{common_steps}
 
 pub returns-clause-shows : goal.returns-clause-shows
-returns-clause-shows c =
-    let w = c.args.self.now in
-    grind (arith, common_steps, place_stored)
+returns-clause-shows c = grind (arith, common_steps, place_stored)

@@ -1,11 +1,6 @@
-use Rattle.std.proofs.Common.{ℕ, ◌+◌, ◌%◌, ◌==◌, ◌<◌, ap}
-use Rattle.std.proofs.lemmas.Nat.{mod_below}
-use Rattle.monk_world.proofs.StoredLaws.{ticket_read}
+use Rattle.std.proofs.Common.{arith}
 use Rattle.monk_world.proofs.words.WorldWords.is_ticket_granted.Goals as goal
+use Rattle.std.proofs.lemmas.Grind.{common_steps}
 
 pub returns : goal.returns
-returns c =
-    let w = c.args.self.now in
-    let at = c.args.ticket % w.seats in
-    let near : at < w.seats = mod_below c.args.ticket w.seats c.requires.seats in
-    ap (λ (n : ℕ). n == c.args.ticket + 1) (ticket_read w at near c.index.result.now c.index.ensures)
+returns c = grind (arith, common_steps)

@@ -4,6 +4,4 @@ use Rattle.monk_world.proofs.StoredLaws.{place_stored, call_stored, call_read}
 use Rattle.std.proofs.lemmas.Grind.{common_steps}
 
 pub returns-clause-shows : goal.returns-clause-shows
-returns-clause-shows c =
-    let w = c.args.self.now in
-    grind (arith, common_steps, place_stored, call_stored, call_read)
+returns-clause-shows c = grind (arith, common_steps, place_stored, call_stored, call_read)

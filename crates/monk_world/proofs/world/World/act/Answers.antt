@@ -1,15 +1,11 @@
-use Rattle.std.proofs.Common.{refl}
-use Rattle.monk_history.specs.declared.event.Event.TheVariants.{Act}
+use Rattle.std.proofs.Common.{refl, arith}
 use Rattle.monk_world.specs.declared.command.Command.TheVariants as command
 use Rattle.monk_world.proofs.StateSteps as world
 use Rattle.monk_world.proofs.world.World.act.Goals as goal
+use Rattle.std.proofs.lemmas.Grind.{common_steps}
 
 pub act-requires-clause-call : goal.act-requires-clause-call
-act-requires-clause-call g c κs within =
-    world.may_call g.K.Kind.rules g.T.Guarded.meaning c.self.inside.words c.self.inside.floor c.args.self.now
-    c.self.view_is c.args.seat (command.Act c.args.op)
-    (Act c.args.seat c.args.op 0) c.self.inside.conds c.self.invariant c.requires refl refl
-    (λ u. refl) (λ t. refl)
+act-requires-clause-call g c κs within = grind (arith, common_steps)
 
 pub invariant_of-self : goal.invariant_of-self
 invariant_of-self g c =

@@ -1,9 +1,10 @@
-use Rattle.std.proofs.Common.{subst, length, ◌≤◌}
+use Rattle.std.proofs.Common.{subst, arith}
 use Rattle.monk_world.proofs.world.World.history.Goals as goal
-use Rattle.monk_world.proofs.{BoundLaws.few_events, RunLaws.well_led}
+use Rattle.monk_world.proofs.{RunLaws.well_led}
 use Rattle.monk_world.specs.{Runs.IsWellLed, WorldViews.WorldView, WorldViews.state_of_view, WorldViews.view_in}
-use Rattle.monk_history.specs.{Limits.most_lines, Meaning.Legal.IsLegal}
+use Rattle.monk_history.specs.{Meaning.Legal.IsLegal}
 use Rattle.monk_floor.specs.View.{monitor_of}
+use Rattle.std.proofs.lemmas.Grind.{common_steps}
 
 pub returns-clause-legal : goal.returns-clause-legal
 returns-clause-legal g c =
@@ -11,9 +12,7 @@ returns-clause-legal g c =
     c.self.view_is c.self.invariant.sound.is_sound.legal
 
 pub returns-clause-few : goal.returns-clause-few
-returns-clause-few g c =
-    subst (λ (v : WorldView). length v.floor.history ≤ most_lines) c.self.view_is
-    (few_events (state_of_view (view_in c.self.inside.words c.self.inside.floor)) c.self.invariant.bounded)
+returns-clause-few g c = grind (arith, common_steps)
 
 pub returns-clause-well_led : goal.returns-clause-well_led
 returns-clause-well_led g c =

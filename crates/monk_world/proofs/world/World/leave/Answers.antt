@@ -1,17 +1,14 @@
-use Rattle.std.proofs.Common.{refl}
+use Rattle.std.proofs.Common.{refl, arith}
 use Rattle.monk_history.specs.declared.event.Event.TheVariants.{Leave}
 use Rattle.monk_history.specs.declared.event.Next.TheVariants as next
 use Rattle.monk_world.specs.declared.command.Command.TheVariants as command
 use Rattle.monk_world.specs.declared.home.Home.TheVariants as home
 use Rattle.monk_world.proofs.StateSteps as world
 use Rattle.monk_world.proofs.world.World.leave.Goals as goal
+use Rattle.std.proofs.lemmas.Grind.{common_steps}
 
 pub plain_leave-next-requires-clause-call : goal.plain_leave-next-requires-clause-call
-plain_leave-next-requires-clause-call g c κs within =
-    world.may_call g.K.Kind.rules g.T.Guarded.meaning c.self.inside.words c.self.inside.floor c.args.self.now
-    c.self.view_is c.args.seat (command.Leave c.args.pick)
-    (Leave c.args.seat next.Stay) c.self.inside.conds c.self.invariant c.requires refl refl
-    (λ u. refl) (λ t. refl)
+plain_leave-next-requires-clause-call g c κs within = grind (arith, common_steps)
 
 pub invariant_of-self : goal.invariant_of-self
 invariant_of-self g c =

@@ -1,10 +1,9 @@
-use Rattle.std.proofs.Common.{rules, ◌≡◌, ℕ, ◌≤◌, true, refl, sym, ap, ◌∙◌, arith}
+use Rattle.std.proofs.Common.{rules, ◌≡◌, ℕ, ◌≤◌, true, sym, ap, ◌∙◌, arith}
 use Rattle.std.specs.Prelude.{slice_index_or, nat_lt, ◌&&◌, false}
 use Rattle.monk_kinds.specs.declared.mode.Rules.{Rules}
 use Rattle.monk_object.specs.Object.{Object}
 use Rattle.monk_floor.specs.View.{FloorView}
 use Rattle.monk_history.specs.Meaning.Counts.{left_of}
-use Rattle.monk_world.specs.declared.command.Command.TheVariants as command
 use Rattle.monk_world.specs.declared.place.Place.TheVariants as place
 use Rattle.monk_world.proofs.WorldLaws as world
 use Rattle.monk_world.proofs.world.World.refusal.Goals as goal
@@ -12,32 +11,17 @@ use Rattle.monk_world.specs.Telling as telling
 use Rattle.monk_world.specs.{declared.command.Command.Command, declared.place.Place.Place, WorldViews.state_of_view}
 use Rattle.monk_world.specs.StepTable.{may_be_told, is_call_in_range, is_call_offered, call_of, left_for}
 use Rattle.std.proofs.lemmas.Grind.{common_steps}
+use Rattle.std.proofs.lemmas.Bool.Decides.{nat_tests}
 
 reach : (o : Object) (f : FloorView) (seat : ℕ) (c : Command) (conds codes predicates : ℕ) → nat_lt seat f.seats ≡ true
     → conds ≡ f.conds → o.codes ≡ codes → o.predicates ≡ predicates
     → telling.is_command_in_range conds codes predicates c ≡ true
     → (nat_lt seat f.seats && is_call_in_range o f (call_of seat c)) ≡ true
-reach o f seat c conds codes predicates here same_conds same_codes same_predicates fits =
-    world.reaches o f seat c here (ap (λ (n : ℕ). telling.is_command_in_range n o.codes o.predicates c) (sym same_conds)
-    ∙ (ap (λ (n : ℕ). telling.is_command_in_range conds n o.predicates c) same_codes
-    ∙ (ap (λ (n : ℕ). telling.is_command_in_range conds codes n c) same_predicates ∙ fits)))
+reach o f seat c conds codes predicates here same_conds same_codes same_predicates fits = grind (arith, nat_tests)
 
 offers : (k : Rules) (i : ℕ) (c : Command) → telling.is_command_offered k.mode c ≡ true
     → is_call_offered k (call_of i c) ≡ true
-offers k i command.Arrive e = refl
-offers k i command.Look e = refl
-offers k i command.Out e = refl
-offers k i command.Peek e = refl
-offers k i command.Drop e = refl
-offers k i command.Grant e = refl
-offers k i (command.Act op) e = refl
-offers k i (command.Leave pick) e = refl
-offers k i (command.Wait cond pick) e = e
-offers k i (command.Signal cond pick) e = e
-offers k i (command.SignalLeave cond pick) e = e
-offers k i (command.Until pred pick) e = e
-offers k i (command.SignalAll cond) e = e
-offers k i (command.SignalWait cond wait_cond pick) e = e
+offers k i c e = grind (arith, nat_tests)
 
 pub returns-then-not-may_be_told : goal.returns-then-not-may_be_told
 returns-then-not-may_be_told g c =

@@ -1,15 +1,11 @@
-use Rattle.std.proofs.Common.{refl}
-use Rattle.monk_history.specs.declared.event.Event.TheVariants.{SignalAll}
+use Rattle.std.proofs.Common.{refl, arith}
 use Rattle.monk_world.specs.declared.command.Command.TheVariants as command
 use Rattle.monk_world.proofs.StateSteps as world
 use Rattle.monk_world.proofs.world.World.signal_all.Goals as goal
+use Rattle.std.proofs.lemmas.Grind.{common_steps}
 
 pub plain_signal_all-requires-clause-call : goal.plain_signal_all-requires-clause-call
-plain_signal_all-requires-clause-call g c κs within =
-    world.may_call g.K.Kind.rules g.T.Guarded.meaning c.self.inside.words c.self.inside.floor c.args.self.now
-    c.self.view_is c.args.seat (command.SignalAll c.args.cond)
-    (SignalAll c.args.seat c.args.cond) c.self.inside.conds c.self.invariant c.requires refl refl
-    (λ u. refl) (λ t. refl)
+plain_signal_all-requires-clause-call g c κs within = grind (arith, common_steps)
 
 pub invariant_of-self : goal.invariant_of-self
 invariant_of-self g c =
