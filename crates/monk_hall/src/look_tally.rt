@@ -4,13 +4,14 @@ use std::sync::atomic::AtomicU64;
 use std::sync::atomic::Ordering::SeqCst;
 
 /// After so many looks in vain in a row looking doesn't pay.
-const MOST_VAIN: u64 = 4;
+const MOST_VAIN: u64 = 16;
 
-/// While looking doesn't pay, one of so many waits tries whether it does again.
-const WAITS_A_TRY: u64 = 16;
+/// While looking doesn't pay, one of so many waits begins a try whether it does again.
+const WAITS_A_TRY: u64 = 256;
 
 /// If threads look in vain, for about as long as a sleep costs, either visits take long, or somebody lost its
-/// processor. After some such looks in a row threads sleep at once. Now and then one tries again.
+/// processor. After some such looks in a row threads sleep at once. Now and then they try again. Where all sleep, each
+/// hand-over costs a wake, so a thread that looks alone looks in vain. That is why a try lasts for several looks.
 #[derive(Drop)]
 pub(crate) struct LookTally {
     vain: AtomicU64,
@@ -31,12 +32,12 @@ impl LookTally {
         self.vain.load(SeqCst) < MOST_VAIN
     }
 
-    /// Whether to try again, though looking doesn't pay. Then it does, until one more look is in vain.
+    /// Whether to try again, though looking doesn't pay. Then it does, until as many looks as before are in vain.
     pub(crate) fn tries_again(&self) -> bool {
         if self.slept.fetch_add(1, SeqCst) % WAITS_A_TRY != 0 {
             return false;
         }
-        self.vain.store(MOST_VAIN - 1, SeqCst);
+        self.vain.store(0, SeqCst);
         true
     }
 

@@ -1,6 +1,5 @@
 mod TrailLaws
 mod StyleLaws
-mod PromiseLaws
 mod ShortLaws
 mod PauseLaws
 mod VisitLaws

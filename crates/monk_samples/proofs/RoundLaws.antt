@@ -16,9 +16,6 @@ pub still_of : (h : House) (p q : Token) (calls : List Addition) → HasCalled (
     → IsOf h p → IsOf h q
 still_of h p q calls s of = (s.went.hall ∙ of.0, s.went.setting ∙ of.1)
 
--- which of two plans a seat has, by the half that it is in
-module _ {X : Type 0} (n seat half : ℕ) (is : n ≡ seat) (a b : X) where
-
 module _ (k : Rules) (o : Object) where
   -- some visits, and then others
   visits_then : (c : Setting) (s : ℕ) (vs ws : List Plan) (xs ys : List Addition) → AreVisits k o c s Done vs xs
