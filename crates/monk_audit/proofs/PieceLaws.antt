@@ -2,19 +2,19 @@
 use Rattle.std.proofs.Common.{◌≡◌, ◌≢◌, ◌+◌, ◌-◌, ◌^◌, ◌<◌, ◌≤◌, ◌==◌, ℕ, cond, List, [], ◌∷◌, ◌++◌, length, rules}
 use Rattle.std.proofs.Common.{refl, sym, ap, subst, ◌∙◌, arith, true, false}
 use Rattle.std.specs.Prelude.{◌⊎◌, IfOk, IfSome}
+use Rattle.std.proofs.lemmas.{Bool.eqb-false, Bool.eqb-true, Bool.ne_eqb, Bool.Decides.nat_tests, List.append-nil}
 use Rattle.std.proofs.Common.{Option, Some, None, Result, Ok, Err}
-use Rattle.std.proofs.lemmas.{Bool.eqb-false, Bool.eqb-true, Bool.ne_eqb, List.append-nil}
 use Rattle.std.specs.Option.{option_map}
 use mathlib.Core.Logic.{inl, inr}
 use Rattle.monk_history.specs.Text.Words.{◌>>=◌}
 use Rattle.monk_history.proofs.PublicLaws.Texts.{head_missing, head_opens, head_refused, items_end, items_unfinished}
-use Rattle.monk_history.specs.Meaning.{Monitor.Monitor, Monitor.monitor, Situation.Situation}
-use Rattle.monk_history.specs.Meaning.{Step.opening_situation, Named.named_monitor, Reasons.reason_in}
+use Rattle.monk_history.specs.Meaning.{Monitor.Monitor, Monitor.monitor, Situation.Situation, Step.opening_situation}
+use Rattle.monk_history.specs.Meaning.{Named.named_monitor, Reasons.reason_in}
 use Rattle.monk_history.specs.declared.{event.Event.Event, text.fault.ReadFault.ReadFault}
-use Rattle.monk_history.specs.Text.{Heading, Faults.end_fault, Faults.header_fault, Faults.memory}
-use Rattle.monk_history.specs.Text.Lines.{Gives, LinesLeft, is_unended, lines_of}
+use Rattle.monk_history.specs.Text.{Heading, Reading.event_under, Reading.header_at}
 use Rattle.monk_history.specs.Text.Pieces.{IsHeadOf, IsNextOfPiece, PieceLeft, items_with}
-use Rattle.monk_history.specs.Text.Reading.{event_under, header_at}
+use Rattle.monk_history.specs.Text.Lines.{Gives, LinesLeft, is_unended, lines_of}
+use Rattle.monk_history.specs.Text.Faults.{end_fault, header_fault, memory}
 use Rattle.monk_audit.specs.declared.stage.Stage.TheVariants as stage
 use Rattle.monk_audit.proofs.ReadingLaws.{forbidden_then, judged_end, judged_fault, judged_is, not_opened_text}
 use Rattle.monk_audit.proofs.ReadingLaws.{opened_text, verdict_of_reading}
@@ -25,13 +25,12 @@ use Rattle.monk_audit.specs.Pieces.{events_from, found_from, judged_from_here, m
 use Rattle.monk_audit.specs.Pieces.{verdict_from_here, stages_left, AsksForNone, IsCarried, IsCourseStep, IsFaulty}
 use Rattle.monk_audit.specs.Pieces.{IsJudgedStep, IsSound, IsSoundCourse, IsStageStep}
 use Rattle.monk_audit.specs.declared.{course.Course.Course, stage.Stage.Stage}
-use Rattle.monk_audit.specs.declared.verdict.Verdict.{Verdict, TheVariants.Forbidden, TheVariants.Legal}
 use Rattle.monk_audit.specs.declared.text_verdict.TextVerdict.{TextVerdict, TheVariants.Judged, TheVariants.TooBig}
+use Rattle.monk_audit.specs.declared.verdict.Verdict.{Verdict, TheVariants.Forbidden, TheVariants.Legal}
 use Rattle.monk_kinds.specs.{declared.mode.Rules.Rules, Names.rules_named}
 use Rattle.monk_object.specs.{Object.Object, Buffer.buffer_meaning, Book.book_meaning, Shop.shop_meaning}
 use Rattle.monk_object.specs.{Flags.flags_meaning, declared.name.ObjectName.ObjectName}
 use Rattle.monk_object.specs.Names.{meaning_named, most, opening_named}
-use Rattle.std.proofs.lemmas.Bool.Decides.{nat_tests}
 
 -- and what is left of them comes after the events that were read
 pub piece_ends : (h : Heading) (count : ℕ) (p : PieceLeft) (rest : List ℕ) → p.number ≡ count + 2

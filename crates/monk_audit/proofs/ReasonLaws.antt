@@ -1,11 +1,9 @@
 -- Reasons and their numbers
 use Rattle.std.proofs.Common.{◌≡◌, ◌≢◌, ◌∙◌, ℕ, Bool, not, cond, List, Option, Some, None, ap, sym, arith}
-use Rattle.monk_audit.specs.Reasons.{number_of, number_or_0, numbered}
-use Rattle.monk_audit.specs.declared.reason.Reason.{Reason}
-use Rattle.monk_history.specs.{declared.event.Event.Event, Meaning.Legal.IsFirstFault}
-use Rattle.monk_history.specs.{Meaning.Monitor.Monitor}
-use Rattle.monk_history.specs.{Meaning.Reasons.reason_in, Meaning.Situation.Situation}
 use Rattle.std.proofs.lemmas.Bool.Decides.{nat_tests}
+use Rattle.monk_audit.specs.{Reasons.number_of, Reasons.number_or_0, Reasons.numbered, declared.reason.Reason.Reason}
+use Rattle.monk_history.specs.Meaning.{Legal.IsFirstFault, Monitor.Monitor, Reasons.reason_in, Situation.Situation}
+use Rattle.monk_history.specs.declared.event.Event.{Event}
 
 -- no reason has the number 0
 pub some_number : (r : Reason) → number_of r ≢ 0

@@ -1,7 +1,7 @@
 -- If the verdict is that the size is too big, no memory was asked for.
 use Rattle.std.proofs.Common.{◌≡◌, ◌<◌, ◌^◌, ℕ, List, [], Option, None, Result, Ok, Err, arith}
 use Rattle.std.proofs.Common.{refl, sym, ◌∙◌}
-use Rattle.std.{proofs.lemmas.List.append-nil, specs.Prelude.IfOk}
+use Rattle.std.{proofs.lemmas.List.append-nil, proofs.lemmas.Bool.Decides.nat_tests, specs.Prelude.IfOk}
 use Rattle.monk_object.specs.{Names.most, Buffer.buffer_meaning, Book.book_meaning, Shop.shop_meaning}
 use Rattle.monk_object.specs.{Flags.flags_meaning}
 use Rattle.monk_history.specs.Text.Words.{◌>>=◌}
@@ -14,7 +14,6 @@ use Rattle.monk_audit.specs.{Audits.owed_by, Reading.lines_verdict, Reading.text
 use Rattle.monk_audit.specs.Pieces.{owed_verdict, verdict_from_here, AsksForNone}
 use Rattle.monk_audit.specs.declared.{stage.Stage.Stage, verdict.Verdict.Verdict}
 use Rattle.monk_audit.specs.declared.text_verdict.TextVerdict.{TextVerdict, TheVariants.Judged, TheVariants.TooBig}
-use Rattle.std.proofs.lemmas.Bool.Decides.{nat_tests}
 
 behind_too_big : (h : Heading) (read : Result (List Event) ReadFault) → lines_verdict h read ≡ Ok TooBig
     → most h.object < h.size

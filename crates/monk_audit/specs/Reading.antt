@@ -2,14 +2,13 @@
 use Rattle.std.specs.Prelude.{ℕ, ◌+◌, ◌<◌, ◌^◌, List, [], ◌∷◌, Result, Ok, IfOk, nat_lt, ◌==◌, if◌then◌else◌}
 use Rattle.monk_object.specs.Names.{most}
 use Rattle.monk_history.specs.Text.Words.{◌>>=◌}
-use Rattle.monk_history.specs.Meaning.{Monitor.Monitor, Situation.Situation, Reasons.reason_in, Step.after}
-use Rattle.monk_history.specs.Meaning.{Named.named_monitor}
-use Rattle.monk_history.specs.declared.{text.fault.ReadFault.ReadFault, event.Event.Event}
-use Rattle.monk_history.specs.Text.{Heading, Lines.lines_of, Lines.opened_at}
-use Rattle.monk_history.specs.Text.Reading.{History, history, header_at, text_at}
-use Rattle.monk_audit.specs.Verdict.{verdict_of}
-use Rattle.monk_audit.specs.declared.verdict.Verdict.{Verdict, TheVariants.Legal, TheVariants.Forbidden}
+use Rattle.monk_history.specs.{Meaning.Monitor.Monitor, Meaning.Situation.Situation, Meaning.Reasons.reason_in}
+use Rattle.monk_history.specs.{Meaning.Step.after, Meaning.Named.named_monitor, declared.text.fault.ReadFault.ReadFault}
+use Rattle.monk_history.specs.{declared.event.Event.Event, Text.Heading, Text.Lines.lines_of, Text.Lines.opened_at}
+use Rattle.monk_history.specs.{Text.Reading.History, Text.Reading.history, Text.Reading.header_at, Text.Reading.text_at}
 use Rattle.monk_audit.specs.declared.text_verdict.TextVerdict.{TextVerdict, TheVariants.Judged, TheVariants.TooBig}
+use Rattle.monk_audit.specs.declared.verdict.Verdict.{Verdict, TheVariants.Legal, TheVariants.Forbidden}
+use Rattle.monk_audit.specs.Verdict.{verdict_of}
 
 -- the verdict on the events to come, after `n` that were found legal, in that situation; the law
 -- `verdict_at_is` says that it is the verdict on the whole history

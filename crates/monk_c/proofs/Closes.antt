@@ -1,16 +1,14 @@
 -- Why a close through a handle is refused, or what it has done
 use Rattle.std.specs.Prelude.{◌≡◌, ◌<◌, ℕ, ℤ, List, length, slice_get, slice_index_or, slice_set, Option, Some, None, IfSome}
 use Rattle.std.proofs.Common.{sym, ap, subst, ◌∙◌, arith}
-use Rattle.std.proofs.lemmas.{List.set-get_or, Option.get_or_from_slice_get, Option.slice_get-get_or}
+use Rattle.std.proofs.lemmas.{List.set-get_or, Bool.Decides.nat_tests}
+use Rattle.std.proofs.lemmas.Option.{get_or_from_slice_get, slice_get-get_or}
 use Rattle.monk_kinds.specs.declared.mode.Pick.TheVariants as pick
-use Rattle.monk_c.specs.{Coming.HasCome, Refusal.refusal_at}
-use Rattle.monk_c.specs.Stands.{Booked}
-use Rattle.monk_c.specs.Closing.{IfCloseRefused, IfClosed, IsInOrTaken, close_refusal, refusal_of_seats}
+use Rattle.monk_c.specs.{Coming.HasCome, Refusal.refusal_at, Stands.Booked, Answers.refusal_number}
+use Rattle.monk_c.specs.Handles.{AnswersAt, IfRefusedAt, booked}
 use Rattle.monk_c.specs.declared.{any_seat.AnySeat.AnySeat, refusal.Refusal.Refusal, handle.MonkSeat.MonkSeat}
 use Rattle.monk_c.specs.declared.call.Call.TheVariants.{Arrive, Poll}
-use Rattle.monk_c.specs.Handles.{AnswersAt, IfRefusedAt, booked}
-use Rattle.monk_c.specs.Answers.{refusal_number}
-use Rattle.std.proofs.lemmas.Bool.Decides.{nat_tests}
+use Rattle.monk_c.specs.Closing.{IfCloseRefused, IfClosed, IsInOrTaken, close_refusal, refusal_of_seats}
 
 set_back : (handles : List MonkSeat) (i : ℕ) (h : MonkSeat) → slice_get handles i ≡ Some h
     → slice_set handles i h ≡ handles

@@ -1,16 +1,15 @@
 -- A new hall and its passes, by their seats
-use Rattle.std.specs.Prelude.{None}
 use Rattle.std.proofs.Common.{◌≡◌, ℕ, zero, suc, ◌+◌, ◌<◌, ◌≤◌, max}
 use Rattle.std.proofs.Common.{List, length, slice_index_or, refl, ap, sym, subst, ◌∙◌, arith}
-use Rattle.std.proofs.Math.Nat.{not-suc-le-zero, le_of_suc-le-suc}
+use Rattle.std.proofs.{Math.Nat.not-suc-le-zero, Math.Nat.le_of_suc-le-suc, lemmas.Bool.Decides.nat_tests}
+use Rattle.std.specs.Prelude.{None}
 use Rattle.atomic_table.specs.Seated.{TableId}
 use Rattle.monk_hall.specs.{Records.opening_record, Records.opening_records, Records.first_view, Tokens.House}
 use Rattle.monk_hall.specs.{Tokens.Token, Tokens.tokens, declared.setting.Setting.Setting, Rule.setting_of}
-use Rattle.monk_floor.specs.{Making.make_refusal}
+use Rattle.monk_floor.specs.Making.{make_refusal}
 use Rattle.monk_c.specs.{declared.numbers.Numbers.Numbers, Stands.RoomView}
 use Rattle.monk_c.specs.Dealing.{ArePasses, IsMadeOf, fresh_pass}
 use Rattle.monk_object.specs.{Names.opening_named, declared.name.ObjectName.TheVariants.Flags as FlagsName}
-use Rattle.std.proofs.lemmas.Bool.Decides.{nat_tests}
 
 abbrev fresh : TableId → Setting → ℕ → Token
 fresh z c i = record { hall = z; me = opening_record c i }

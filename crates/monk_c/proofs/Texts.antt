@@ -1,15 +1,14 @@
 -- The text that C gets is one of a legal history
 use Rattle.std.proofs.Common.{◌≡◌, ◌≤◌, ℕ, List, length, ap, subst, ◌∙◌, arith}
+use Rattle.std.proofs.lemmas.Bool.Decides.{nat_tests}
 use Rattle.monk_kinds.specs.{Names.rules_named, declared.mode.Rules.Rules, declared.name.KindName.KindName}
 use Rattle.monk_object.specs.{Flags.flags_meaning, Names.opening_named, declared.name.ObjectName.TheVariants.Flags}
 use Rattle.monk_history.specs.{Limits.most_lines, Meaning.Legal.IsLegal, declared.event.Event.Event}
 use Rattle.monk_history.specs.Text.{Heading, HasText, text}
-use Rattle.monk_floor.proofs.PublicLaws.{legal_as_headed}
-use Rattle.monk_floor.specs.{Headed.IsHeadedBy, View.monitor_of}
+use Rattle.monk_floor.{proofs.PublicLaws.legal_as_headed, specs.Headed.IsHeadedBy, specs.View.monitor_of}
 use Rattle.monk_hall.specs.{Layout.floor_of, Tokens.Holder, declared.setting.Setting.Setting}
-use Rattle.monk_c.specs.{Stands.IsAtHome, Stands.RoomView, Stands.At.Inside, Texts.IsTextOf}
-use Rattle.monk_c.specs.Headings.{flags_made, heading_for}
-use Rattle.std.proofs.lemmas.Bool.Decides.{nat_tests}
+use Rattle.monk_c.specs.{Texts.IsTextOf, Headings.flags_made, Headings.heading_for}
+use Rattle.monk_c.specs.Stands.{IsAtHome, RoomView, At.Inside}
 
 module _ (k : KindName) (r : RoomView) (a : Holder)
     (opening : r.house.setting.opening ≡ opening_named Flags (flags_made r.flags)) (home : IsAtHome r (Inside a))

@@ -1,10 +1,9 @@
 //! A seat of a monitor of any kind.
 ghost use Rattle.std.specs.Prelude.{◌≡◌, true, IfOk, IfErr};
 ghost use Rattle.monk_kinds.specs.declared.mode.Pick.TheVariants as pick;
-ghost use Rattle.monk_c.specs.{Coming.IfComesAt, Looking.IsCountOf, Refusal.is_plain};
-ghost use Rattle.monk_c.specs.Texts.{HasTextBooked, IsTextRefusalOf};
-ghost use Rattle.monk_c.specs.Handles.{IfRefusedAt, IfTakenAt, IfUntoldAt, booked};
-ghost use Rattle.monk_c.specs.SeatQuestions.{IsLeft, place_at, word_at};
+ghost use Rattle.monk_c.specs.{Coming.IfComesAt, Looking.IsCountOf, Refusal.is_plain, Texts.HasTextBooked};
+ghost use Rattle.monk_c.specs.{Texts.IsTextRefusalOf, Handles.IfRefusedAt, Handles.IfTakenAt, Handles.IfUntoldAt};
+ghost use Rattle.monk_c.specs.{Handles.booked, SeatQuestions.IsLeft, SeatQuestions.place_at, SeatQuestions.word_at};
 
 use crate::call::Call;
 use crate::refusal::Refusal;

@@ -1,7 +1,7 @@
 -- A log is completed exactly if it is open under the kind
 use Rattle.std.proofs.Common.{◌≡◌, ℕ, ◌<◌, ◌≤◌, ◌^◌, inl, inr, List, Result, Ok, Err, rules}
-use Rattle.std.proofs.Common.{refl, arith}
 use Rattle.std.specs.Prelude.{◌↔◌}
+use Rattle.std.proofs.{Common.refl, Common.arith, lemmas.Bool.Decides.nat_tests}
 use Rattle.monk_kinds.specs.declared.name.KindName.{KindName}
 use Rattle.monk_object.specs.Names.{most}
 use Rattle.monk_history.specs.declared.text.fault.ReadFault.{ReadFault}
@@ -13,7 +13,6 @@ use Rattle.monk_logs.{specs.Log.LogHeading, specs.Log.Reading.Log, specs.Log.Rea
 use Rattle.monk_logs.{specs.declared.text.line.LogLine.LogLine, proofs.PublicLaws.log_again, proofs.PublicLaws.log_read}
 use Rattle.monk_commands.specs.Completed.{IsAnswerToLog, IsLogAnswer, IsLogOf, IsMisfitText, IsOpenText}
 use Rattle.monk_commands.specs.Completed.{IsReadingAnswer, IsVerdictAnswer}
-use Rattle.std.proofs.lemmas.Bool.Decides.{nat_tests}
 
 -- for the answer to a log
 module _ (kind : KindName) (h : LogHeading) (ls : List LogLine) (status : ℕ) (Puts : List ℕ → Type 0) where
@@ -57,12 +56,6 @@ module _ (kind : KindName) (input : List ℕ) (status : ℕ) (Puts : List ℕ �
       read (Ok l) is (inl a) e = (l.0, (l.1, (log_is l is a.0, (by l.0 l.1 a.1).0 e)))
       read (Ok l) is (inr a) e = absurd (omega (arith, a.1, e, low))
       read (Err f) is a e = absurd (omega (arith, a.0, e, low))
-
-  status_most : (r : Result Log ReadFault) → IsReadingAnswer kind r status Puts → status ≤ 2
-  status_most r a = grind (arith, nat_tests)
-
-  pub statuses : IsAnswerToLog kind input status Puts → status ≤ 2
-  statuses a = status_most (log_at (2 ^ 25) input) a
 
   pub exactly_open : IsAnswerToLog kind input status Puts → (status ≡ 0) ↔ IsOpenText kind input
   exactly_open a = search (rules, exactly, open_by, kind_fits)

@@ -2,19 +2,18 @@
 use Rattle.std.proofs.Common.{◌≡◌, ℕ, ◌≤◌, ◌<◌, ◌^◌, Bool, cond, ltb, List, Option, Some, None}
 use Rattle.std.proofs.Common.{Result, Ok, Err, refl, sym, ap, ◌∙◌, arith}
 use Rattle.std.specs.Prelude.{IfSome, ◌↔◌}
-use Rattle.std.proofs.lemmas.Bool.{le-ltb}
+use Rattle.std.proofs.lemmas.Bool.{le-ltb, Decides.nat_tests}
 use Rattle.monk_object.specs.Names.{most}
 use Rattle.monk_history.proofs.PublicLaws.Texts.{text_again, text_read}
-use Rattle.monk_history.specs.Text.{Heading, Reading.History, Reading.text_at, Lines.Gives}
 use Rattle.monk_history.specs.Meaning.{Legal.IsLegal, Named.named_monitor}
 use Rattle.monk_history.specs.declared.{event.Event.Event, text.fault.ReadFault.ReadFault}
+use Rattle.monk_history.specs.Text.{Heading, Reading.History, Reading.text_at, Lines.Gives}
 use Rattle.monk_audit.proofs.PublicLaws.{is_legal, is_fault, is_verdict}
 use Rattle.monk_audit.specs.{Verdict.IsVerdict, Verdict.verdict_of, Reading.same, Reading.text_verdict}
-use Rattle.monk_audit.specs.declared.verdict.Verdict.{Verdict, TheVariants.Legal, TheVariants.Forbidden}
 use Rattle.monk_audit.specs.declared.text_verdict.TextVerdict.{TextVerdict}
+use Rattle.monk_audit.specs.declared.verdict.Verdict.{Verdict, TheVariants.Legal, TheVariants.Forbidden}
 use Rattle.monk_commands.specs.Answer.{LineAnswer, answer_of, reading_answer, too_big, verdict_answer}
 use Rattle.monk_commands.specs.Legal.{IsTextOf, IsLegalText, HasFault, IsForbiddenText}
-use Rattle.std.proofs.lemmas.Bool.Decides.{nat_tests}
 
 -- what an answer with status 0 or 1 says about the size and the verdict
 judged_by : (h : History) (b : Bool) (v : Verdict) (n : ℕ) → ltb (most h.0.object) h.0.size ≡ b

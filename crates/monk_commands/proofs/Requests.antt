@@ -1,22 +1,13 @@
 -- What clap's matches say about the command and its values.
 use Rattle.std.proofs.Common.{◌≡◌, ℕ, ◌+◌, ◌<◌, List, [], ◌∷◌, ◌++◌, length, get_or, take, map, Option, Some, None, Result, Ok, true}
-use Rattle.std.proofs.Common.{refl, sym, ap, subst, ◌∙◌, Bor, arith}
+use Rattle.std.proofs.Common.{refl, sym, ap, subst, ◌∙◌, Bor}
 use Rattle.std.proofs.lemmas.List.{map-append, take_more}
 use Rattle.std.specs.{Str.Parse.ParsesUnsigned, Prelude.option_map}
 use Rattle.clap.proofs.{WalkLemmas.one_text-rows, WalkLemmas.raw_values-rows, OnLiterals.clap_on_literals}
-use Rattle.clap.specs.Words.{Row, Text, TriesOne, all_of, matched_of, one_text, raw_values, rows_of, is_simple}
+use Rattle.clap.specs.Words.{Text, TriesOne, all_of, matched_of, one_text, raw_values, rows_of, is_simple}
 use Rattle.clap.specs.declared.parser.matches.Found.{Found}
-use Rattle.monk_commands.specs.Request.{AreMeanings, IsAsked, IsMeaning, IsRead, MayHaveNumber, NameList, monk_app}
-use Rattle.monk_commands.specs.Request.{words_or_none}
-use Rattle.monk_commands.specs.declared.request.Line.{Line}
+use Rattle.monk_commands.specs.Request.{AreMeanings, IsMeaning, MayHaveNumber, NameList, monk_app, words_or_none}
 use Rattle.monk_judge.specs.declared.waits_for.WaitsFor.{WaitsFor}
-use Rattle.std.proofs.lemmas.Bool.Decides.{nat_tests}
-
--- what is read in the rows of a command is asked for if that command was found
-pub asked_in : (o : Option (Text × List Row)) (word : Text) (rows : List Row) (l : Line)
-    → option_map (λ p. p.0) o ≡ Some word → option_map (λ p. p.1) o ≡ Some rows
-    → IsRead word l rows → IsAsked l o
-asked_in o word rows l w r is = grind (arith, nat_tests)
 
 -- the number that is read by `try_get_one`, if one is
 pub number_tried : (E : Type 0) (G : List ℕ → Result ℕ E → Type 0) (bits : ℕ) (o : Option ℕ)

@@ -1,6 +1,6 @@
 -- Traces grow by a line for each command
 use Rattle.std.proofs.Common.{◌≡◌, ℕ, suc, ◌+◌, List, [], ◌∷◌, ◌++◌, refl, sym, ap, subst, ◌∙◌, append_assoc, arith}
-use Rattle.std.proofs.{KnownBytes.Appends-trans, lemmas.List.append-nil}
+use Rattle.std.proofs.{KnownBytes.Appends-trans, lemmas.List.append-nil, lemmas.Bool.Decides.nat_tests}
 use Rattle.std.specs.{Prelude.Option, Io.KnownBytes.Appends}
 use Rattle.monk_object.specs.declared.name.ObjectName.{ObjectName}
 use Rattle.monk_history.specs.Meaning.{Monitor.Monitor, Situation.situation}
@@ -8,7 +8,6 @@ use Rattle.monk_tell.specs.declared.place.SeatPlace.{SeatPlace}
 use Rattle.monk_world.specs.{State.State, StepTable.IsStep}
 use Rattle.monk_world.specs.declared.{answer.Answer.Answer, command.Command.Command}
 use Rattle.monk_commands.specs.Traced.{AreTraced, places_text, seat_text, trace_line}
-use Rattle.std.proofs.lemmas.Bool.Decides.{nat_tests}
 
 pub places_more : (s : State) (stands : ℕ → SeatPlace) (j : ℕ)
     → places_text s stands (j + 1) ≡ places_text s stands j ++ seat_text s stands j

@@ -1,14 +1,13 @@
 -- A text is upgraded exactly if it is a history, and then to the text of the same events
-use Rattle.std.proofs.Common.{◌≡◌, ℕ, ◌^◌, ◌⊎◌, List, Result, Ok, Err}
+use Rattle.std.proofs.Common.{◌≡◌, ℕ, ◌^◌, List, Result, Ok, Err}
 use Rattle.std.proofs.Common.{refl, sym, ap, subst, ◌∙◌, arith}
 use Rattle.std.specs.Prelude.{◌↔◌}
-use Rattle.monk_history.proofs.PublicLaws.Texts.{text_again, text_read, upgraded_text}
-use Rattle.monk_history.specs.{Text.Heading, Text.text, Text.upgraded_heading}
-use Rattle.monk_history.specs.{Text.Reading.History, Text.Reading.history, Text.Reading.text_at}
-use Rattle.monk_history.specs.declared.{event.Event.Event, text.fault.ReadFault.ReadFault}
-use Rattle.monk_commands.specs.Answer.{LineAnswer}
-use Rattle.monk_commands.specs.Upgraded.{IsHistoryOf, IsHistoryText, IsUpgraded, upgrade_answer, upgrade_of}
 use Rattle.std.proofs.lemmas.Bool.Decides.{nat_tests}
+use Rattle.monk_history.proofs.PublicLaws.Texts.{text_again, text_read, upgraded_text}
+use Rattle.monk_history.specs.declared.{event.Event.Event, text.fault.ReadFault.ReadFault}
+use Rattle.monk_history.specs.Text.{Heading, text, upgraded_heading, Reading.History, Reading.history, Reading.text_at}
+use Rattle.monk_commands.specs.Upgraded.{IsHistoryOf, IsHistoryText, IsUpgraded, upgrade_answer, upgrade_of}
+use Rattle.monk_commands.specs.Answer.{LineAnswer}
 
 history_read : (input : List ℕ) (x : History) → text_at (2 ^ 25) input ≡ Ok x → IsHistoryOf input x.0 x.1
 history_read input x is =
@@ -22,10 +21,6 @@ is_read : (input : List ℕ) (r : Result History ReadFault) → text_at (2 ^ 25)
     → IsHistoryText input
 is_read input (Ok x) is e = (x.0, (x.1, history_read input x is))
 is_read input (Err f) is e = absurd (omega (arith, e))
-
--- a status 0 or 2
-pub statuses : (status : ℕ) (bytes : List ℕ) → status ≡ (upgrade_of bytes).status → (status ≡ 0) ⊎ (status ≡ 2)
-statuses status bytes h = grind (arith, nat_tests)
 
 pub exactly : (status : ℕ) (bytes : List ℕ) → status ≡ (upgrade_of bytes).status → (status ≡ 0) ↔ IsHistoryText bytes
 exactly status bytes h = (

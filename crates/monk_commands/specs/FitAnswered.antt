@@ -6,11 +6,10 @@ use Rattle.monk_history.specs.{declared.event.Event.Event, Meaning.Named.named_m
 use Rattle.monk_history.specs.Text.{Heading, Reading.History, Reading.text_at}
 use Rattle.monk_audit.specs.{Under.under, Verdict.verdict_of, declared.verdict.Verdict.Verdict}
 use Rattle.monk_commands.specs.declared.logs.view.LogView.TheVariants as view
-use Rattle.monk_commands.specs.LogAnswered.{IsAnswerToLog}
+use Rattle.monk_commands.specs.{LogAnswered.IsAnswerToLog, declared.question.Question.Question}
+use Rattle.monk_commands.specs.{declared.fit_form.FitForm.FitForm, declared.fit_form.FitForm.TheVariants.Words}
+use Rattle.monk_commands.specs.{declared.fit_form.FitForm.TheVariants.Named, declared.fit_form.FitForm.TheVariants.Json}
 use Rattle.monk_commands.specs.Answer.{IsOf, IsReading, IsSized, LineAnswer, verdict_answer}
-use Rattle.monk_commands.specs.declared.question.Question.{Question}
-use Rattle.monk_commands.specs.declared.fit_form.FitForm.{FitForm}
-use Rattle.monk_commands.specs.declared.fit_form.FitForm.TheVariants.{Words, Named, Json}
 
 -- ---- a history
 

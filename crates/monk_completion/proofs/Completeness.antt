@@ -1,33 +1,29 @@
 -- The log of a legal history is judged to fit, line by line
 use Rattle.std.proofs.Common.{arith, ◌≡◌, ℕ, Bool, true, cond, not, List, [], ◌∷◌, ◌++◌, Some, refl, sym, ap, subst, ◌∙◌}
 use Rattle.std.specs.Prelude.{◌==◌, Result, Ok, Err}
-use Rattle.std.proofs.lemmas.Bool.{and_from, eq-eqb}
+use Rattle.std.proofs.lemmas.Bool.{and_from, eq-eqb, Decides.nat_tests}
 use Rattle.monk_history.specs.declared.event.Event.TheVariants as event
 use Rattle.monk_history.proofs.PublicLaws.Meaning.{history_induction, legal_front, legal_last, legal_situation-push}
 use Rattle.monk_history.proofs.PublicLaws.Meaning.{situation-none, turn-push}
 use Rattle.monk_history.specs.Meaning.{Choice.queues_at, Legal.IsLegal, Monitor.Monitor, Step.after, Turn.turn_by}
-use Rattle.monk_history.specs.Meaning.Situation.{Situation, situation}
+use Rattle.monk_history.specs.Meaning.{Situation.Situation, Situation.situation, Release.MayCallIn, Release.as_called}
 use Rattle.monk_history.specs.Meaning.Reasons.{IsAllowed, IsAllowedIn, fits_turn}
 use Rattle.monk_history.specs.Meaning.Events.{next_of, seat_of, has_signaller_queue, returns_at_once}
-use Rattle.monk_history.specs.Meaning.Release.{MayCallIn, as_called}
-use Rattle.monk_history.specs.declared.event.{Event.Event, From3.From3, Via.Via}
-use Rattle.monk_history.specs.declared.event.Next.{Next, TheVariants.Stay}
+use Rattle.monk_history.specs.declared.event.{Event.Event, From3.From3, Via.Via, Next.Next, Next.TheVariants.Stay}
 use Rattle.monk_logs.specs.declared.text.line.LogLine.{LogLine}
 use Rattle.monk_logs.specs.declared.text.line.LogLine.TheVariants.{Enter, Resume, Leave, Wait, Signal, Broadcast, Until}
 use Rattle.monk_logs.specs.declared.text.line.LogLine.TheVariants.{Act}
 use Rattle.monk_completion.proofs.{Calls.called_queues, Calls.half_called, Calls.named_again, Events.erasure-push}
+use Rattle.monk_completion.proofs.ToldInHistories.{chosen, erased_lines, first_line, later_lines, line_tells}
 use Rattle.monk_completion.proofs.Tests.{allowed_called, passes, reason_from_allowed}
 use Rattle.monk_completion.proofs.Lead.{lead, lead-append, lead_all, lead_err, lead_more, lead_none}
-use Rattle.monk_completion.proofs.ToldInHistories.{chosen, erased_lines, first_line, later_lines, line_tells}
-use Rattle.monk_completion.specs.{Erasure.erasure_of, Erasure.erasure, Fits.IsOpen}
+use Rattle.monk_completion.specs.{Erasure.erasure_of, Erasure.erasure, Fits.IsOpen, Blame.half_blame}
 use Rattle.monk_completion.specs.Stand.{Stand, hold_over, line_half, line_over, line_settled, line_told, opening_stand}
 use Rattle.monk_completion.specs.Stand.{release_over, settle, stand, stand_settled, via_now}
-use Rattle.monk_completion.specs.Blame.{half_blame}
-use Rattle.monk_completion.specs.declared.blame.Blame.{Blame}
 use Rattle.monk_completion.specs.declared.pending.Pending.{Pending}
 use Rattle.monk_completion.specs.declared.pending.Pending.TheVariants.{Settled, Half, Release}
+use Rattle.monk_completion.specs.declared.blame.Blame.{Blame}
 use Rattle.monk_completion.specs.Told.{is_lapse, told_next, told_release}
-use Rattle.std.proofs.lemmas.Bool.Decides.{nat_tests}
 
 -- ---- how far the judging of a legal history comes
 

@@ -1,18 +1,17 @@
 -- The verdict on a log says exactly which legal histories begin with it
 use Rattle.std.proofs.Common.{◌≡◌, ℕ, ◌+◌, ◌<◌, ◌≤◌, ◌-◌, List, [], ◌∷◌, take, drop, ◌++◌, length, Some, refl, sym, subst, ◌∙◌, arith}
+use Rattle.std.proofs.lemmas.Bool.Decides.{nat_tests}
 use Rattle.std.proofs.lemmas.List.{append-nil, append_assoc, length-append, take-append-drop, take-take, take_at}
 use Rattle.std.specs.Prelude.{Result, Ok, Err}
 use Rattle.monk_kinds.specs.{Kind.IsKind, Names.rules_named, declared.name.KindName.KindName}
 use Rattle.monk_history.specs.Meaning.Monitor.{Monitor}
 use Rattle.monk_logs.specs.{Log.LogHeading, declared.text.line.LogLine.LogLine}
-use Rattle.monk_completion.proofs.{Completeness.open_judged, Soundness.judged_open, Soundness.open_front}
-use Rattle.monk_completion.proofs.Lead.{lead_all, lead_none, lead_push}
+use Rattle.monk_completion.proofs.{Completeness.open_judged, Lead.lead_all, Lead.lead_none, Lead.lead_push}
+use Rattle.monk_completion.proofs.Soundness.{judged_open, open_front}
+use Rattle.monk_completion.specs.{Fits.IsOpen, declared.blame.Blame.Blame, declared.verdict.LogVerdict.LogVerdict}
+use Rattle.monk_completion.specs.{declared.verdict.LogVerdict.TheVariants.Fits}
 use Rattle.monk_completion.specs.Stand.{Stand, line_over, opening_stand, verdict_from, verdict_on}
-use Rattle.monk_completion.specs.Fits.{IsOpen}
 use Rattle.monk_completion.specs.Verdict.{FitsExactly, IsMisfit, IsVerdictOn, MisfitsExactly, log_monitor, misfit_at}
-use Rattle.monk_completion.specs.declared.blame.Blame.{Blame}
-use Rattle.monk_completion.specs.declared.verdict.LogVerdict.{LogVerdict, TheVariants.Fits}
-use Rattle.std.proofs.lemmas.Bool.Decides.{nat_tests}
 
 -- ---- line by line
 

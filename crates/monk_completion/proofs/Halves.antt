@@ -1,11 +1,10 @@
 -- A log ends with half a signal exactly if one is still to come
 use Rattle.std.proofs.Common.{arith, ◌≡◌, ℕ, true, cond, List, [], ◌∷◌, ◌++◌, Option, Some, None, refl, ap, ◌∙◌}
-use Rattle.std.specs.List.{last_or}
+use Rattle.std.{specs.List.last_or, proofs.lemmas.Bool.Decides.nat_tests}
 use Rattle.monk_kinds.specs.declared.mode.Mode.{Mode}
 use Rattle.monk_history.specs.{declared.event.Event.Event, Meaning.Events.is_call_of, Meaning.Events.returns_at_once}
 use Rattle.monk_completion.specs.{Completion.leaving, Completion.other_half, Erasure.erasure_of}
 use Rattle.monk_logs.specs.declared.text.line.LogLine.{LogLine, TheVariants.Leave, TheVariants.Signal}
-use Rattle.std.proofs.lemmas.Bool.Decides.{nat_tests}
 
 last_append : (o : Option LogLine) (xs ys : List LogLine) → last_or o (xs ++ ys) ≡ last_or (last_or o xs) ys
 last_append o [] ys = refl

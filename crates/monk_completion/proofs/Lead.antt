@@ -1,10 +1,9 @@
 -- Where lines lead
 use Rattle.std.proofs.Common.{arith, ◌≡◌, List, [], ◌∷◌, ◌++◌, refl}
-use Rattle.std.specs.Prelude.{Result, Ok, Err}
+use Rattle.std.{specs.Prelude.Result, specs.Prelude.Ok, specs.Prelude.Err, proofs.lemmas.Bool.Decides.nat_tests}
 use Rattle.monk_history.specs.Meaning.Monitor.{Monitor}
 use Rattle.monk_logs.specs.declared.text.line.LogLine.{LogLine}
 use Rattle.monk_completion.specs.{Stand.Stand, Stand.line_over, Stand.opening_stand, declared.blame.Blame.Blame}
-use Rattle.std.proofs.lemmas.Bool.Decides.{nat_tests}
 
 -- the stand after the lines to come, or the reason against one of them, from there on
 unfoldable pub lead : Monitor → Result Stand Blame → List LogLine → Result Stand Blame

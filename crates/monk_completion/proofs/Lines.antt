@@ -1,5 +1,6 @@
 -- The lines that have been judged so far, with the events that they showed
 use Rattle.std.proofs.Common.{arith, ◌≡◌, ℕ, ◌+◌, ◌<◌, ◌≤◌, List, [], length, get_or, take, drop, ◌++◌, ◌∷◌, refl, sym, ap, subst, ◌∙◌}
+use Rattle.std.proofs.lemmas.Bool.Decides.{nat_tests}
 use Rattle.std.proofs.lemmas.List.{at_drop_all, at_drop_more, take_all, take_more}
 use Rattle.std.specs.Prelude.{Result, Ok, Err, OnOk}
 use Rattle.monk_kinds.specs.{Kind.IsKind, declared.mode.Rules.Rules}
@@ -9,16 +10,14 @@ use Rattle.monk_history.specs.{Meaning.Reasons.reason_in, Meaning.Situation.Situ
 use Rattle.monk_logs.specs.declared.text.line.LogLine.{LogLine}
 use Rattle.monk_logs.specs.declared.text.line.LogLine.TheVariants.{Enter, Resume, Lapse, Leave, Wait, Signal, Broadcast}
 use Rattle.monk_logs.specs.declared.text.line.LogLine.TheVariants.{Until, Act}
-use Rattle.monk_completion.proofs.Soundness.{TellsAt, tells_nothing, tells_on}
 use Rattle.monk_completion.proofs.Endings.{tells_completes}
+use Rattle.monk_completion.proofs.Soundness.{TellsAt, tells_nothing, tells_on}
 use Rattle.monk_completion.specs.{Completion.Completes, Ending.last_events, Events.told_events}
 use Rattle.monk_completion.specs.Stand.{Stand, line_behind, line_half, line_over, line_settled, line_told, settle}
 use Rattle.monk_completion.specs.Stand.{stand, stand_or, verdict_from, verdict_on}
+use Rattle.monk_completion.specs.declared.pending.Pending.{Pending, TheVariants.Settled}
 use Rattle.monk_completion.specs.declared.blame.Blame.{Blame}
 use Rattle.monk_completion.specs.declared.verdict.LogVerdict.TheVariants.{Fits, Misfit}
-use Rattle.monk_completion.specs.declared.pending.Pending.{Pending}
-use Rattle.monk_completion.specs.declared.pending.Pending.TheVariants.{Settled}
-use Rattle.std.proofs.lemmas.Bool.Decides.{nat_tests}
 
 -- ---- the judging of lines doesn't depend on the object's opening state
 

@@ -1,7 +1,7 @@
 -- In a legal history, the line of the event after a release shows what the release chose
 use Rattle.std.proofs.Common.{◌≡◌, ℕ, ◌≤◌, Bool, true, false, cond, List, [], ◌∷◌, ◌++◌, drop, Option, Some, refl, ap}
 use Rattle.std.proofs.Common.{subst, ◌∙◌, arith}
-use Rattle.std.specs.{Option.option_map_or, Prelude.is_some}
+use Rattle.std.{specs.Option.option_map_or, specs.Prelude.is_some, proofs.lemmas.Bool.Decides.nat_tests}
 use Rattle.monk_kinds.specs.declared.mode.Rules.{Rules}
 use Rattle.monk_object.specs.Object.{Object}
 use Rattle.monk_history.specs.declared.event.Event.TheVariants as event
@@ -10,15 +10,14 @@ use Rattle.monk_history.specs.declared.event.Next.TheVariants as next
 use Rattle.monk_history.proofs.PublicLaws.Meaning.{legal_front, legal_last, legal_placed, legal_situation-push}
 use Rattle.monk_history.specs.Meaning.{Legal.IsLegal, Monitor.Monitor, Reasons.fits_turn, Signallers.takes_signaller}
 use Rattle.monk_history.specs.Meaning.{Situation.Situation, Situation.situation, Step.after, Turn.turn_by}
+use Rattle.monk_history.specs.Meaning.Events.{next_of, seat_of, steps_back, is_stay, is_waiter}
 use Rattle.monk_history.specs.Meaning.Choice.{Queues, queues_at, is_front, may_choose, may_signal, must_stay}
 use Rattle.monk_history.specs.Meaning.Standing.{has_turn, in_queues, standing, times}
-use Rattle.monk_history.specs.Meaning.Events.{next_of, seat_of, steps_back, is_stay, is_waiter}
 use Rattle.monk_history.specs.declared.event.{Event.Event, From3.From3, Next.Next, Turn.TheVariants.Due}
 use Rattle.monk_completion.specs.{Told.chosen_from, Told.told_next, Erasure.erasure_of}
 use Rattle.monk_logs.specs.declared.text.line.LogLine.{LogLine}
 use Rattle.monk_logs.specs.declared.text.line.LogLine.TheVariants.{Enter, Resume, Leave, Wait, Signal, Broadcast, Until}
 use Rattle.monk_logs.specs.declared.text.line.LogLine.TheVariants.{Act}
-use Rattle.std.proofs.lemmas.Bool.Decides.{nat_tests}
 
 -- ---- the first line of an event
 

@@ -2,25 +2,22 @@
 use Rattle.std.proofs.Common.{◌≡◌, ℕ, Bool, true, false, cond, not, ◌&&◌, ◌||◌, ◌==◌, Option, List, ◌++◌, refl}
 use Rattle.std.proofs.Common.{sym, ap, subst, ◌∙◌, arith}
 use Rattle.std.specs.Prelude.{slice_get, nat_le, if◌then◌else◌}
-use Rattle.monk_kinds.specs.Kind.{IsKind}
-use Rattle.monk_kinds.specs.declared.mode.Pick.{Pick, TheVariants.Entry as WishEntry, TheVariants.Waiter as WishWaiter}
-use Rattle.monk_kinds.specs.declared.mode.Pick.{TheVariants.Signaller as WishSignaller}
-use Rattle.monk_kinds.specs.declared.mode.Rules.{Rules}
+use Rattle.std.proofs.lemmas.Bool.Decides.{nat_tests}
+use Rattle.monk_kinds.specs.{Kind.IsKind, declared.mode.Pick.Pick, declared.mode.Pick.TheVariants.Entry as WishEntry}
+use Rattle.monk_kinds.specs.{declared.mode.Pick.TheVariants.Waiter as WishWaiter}
+use Rattle.monk_kinds.specs.{declared.mode.Pick.TheVariants.Signaller as WishSignaller, declared.mode.Rules.Rules}
 use Rattle.monk_object.specs.{Object.Object, declared.op.Op.Op}
 use Rattle.monk_history.proofs.PublicLaws.Meaning.{chosen_allowed}
-use Rattle.monk_history.specs.Just.{just}
 use Rattle.monk_history.specs.Meaning.{Monitor.Monitor, Situation.Situation, Situation.situation, Waiters.serves}
-use Rattle.monk_history.specs.Meaning.{Signallers.is_empty, Signallers.signals, Untils.ready_of, Release.MayCall}
-use Rattle.monk_history.specs.Meaning.{Release.with_next, Release.choice_of, Reasons.is_right_reply, Reasons.IsAllowed}
-use Rattle.monk_history.specs.Meaning.Choice.{Queues, must_stay}
-use Rattle.monk_history.specs.Meaning.Events.{seat_of}
+use Rattle.monk_history.specs.Meaning.{Signallers.is_empty, Signallers.signals, Untils.ready_of, Reasons.is_right_reply}
+use Rattle.monk_history.specs.Meaning.{Reasons.IsAllowed, Choice.Queues, Choice.must_stay, Events.seat_of}
 use Rattle.monk_history.specs.Meaning.Wish.{inner_waiters, front, waiter_choice, choice_by}
+use Rattle.monk_history.specs.Meaning.Release.{MayCall, with_next, choice_of}
+use Rattle.monk_history.specs.Just.{just}
 use Rattle.monk_history.specs.declared.event.{Event.Event, Event.TheVariants.Act, Turn.Turn}
-use Rattle.monk_history.specs.declared.event.Next.{Next}
-use Rattle.monk_history.specs.declared.event.Next.TheVariants.{Stay, Entry, Signaller}
+use Rattle.monk_history.specs.declared.event.Next.{Next, TheVariants.Stay, TheVariants.Entry, TheVariants.Signaller}
 use Rattle.monk_floor.{specs.Queues.QueueLists, specs.Queues.queue_at, specs.Kept.shown_situation}
 use Rattle.monk_floor.{specs.Kept.KeepsHistory, specs.Ready.stays_by, proofs.KeptLaws.in_order}
-use Rattle.std.proofs.lemmas.Bool.Decides.{nat_tests}
 
 -- a choice by what it reads of the queues
 abbrev parts : Rules → Bool → Next → Bool → ℕ → ℕ → Bool → Pick → Next

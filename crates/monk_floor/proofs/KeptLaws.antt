@@ -1,8 +1,8 @@
 -- What a floor keeps, before an event and after it
 use Rattle.std.proofs.Common.{◌≡◌, ℕ, ◌+◌, ◌-◌, ◌*◌, ◌<◌, ◌≤◌, zero, suc, Bool, true, false, cond, ◌&&◌, ◌||◌, not}
 use Rattle.std.proofs.Common.{◌==◌, All, List, [], ◌∷◌, ◌++◌, length, refl, sym, ap, subst, ◌∙◌, arith, Option, drop, ⊎_elim}
+use Rattle.std.proofs.lemmas.{Bool.eqb-true, Bool.cases_lt, Bool.Decides.nat_tests, List.Elements.All-nil}
 use Rattle.std.proofs.Math.Nat.{mul-le-mul_right}
-use Rattle.std.proofs.lemmas.{Bool.eqb-true, Bool.cases_lt, List.Elements.All-nil}
 use Rattle.std.specs.{Prelude.nat_lt, Prelude.slice_index_or, List.list_all}
 use Rattle.monk_kinds.specs.{declared.mode.Rules.Rules, Kind.IsKind}
 use Rattle.monk_object.specs.Object.{Object}
@@ -12,19 +12,18 @@ use Rattle.monk_history.proofs.PublicLaws.Meaning.{granted_of-push, enters_of-pu
 use Rattle.monk_history.proofs.PublicLaws.Meaning.{granted_none, enters_none, few_events, room_left, history_few}
 use Rattle.monk_history.proofs.PublicLaws.Meaning.{IsInOrder, legal_order, seat_in_range, caller_unqueued}
 use Rattle.monk_history.proofs.PublicLaws.Meaning.{joins_in_range}
-use Rattle.monk_history.specs.Limits.{most_seats, most_conds, most_budget, most_lines}
 use Rattle.monk_history.specs.Meaning.{Monitor.Monitor, Monitor.data_after, Situation.situation, Step.after}
 use Rattle.monk_history.specs.Meaning.{Step.opening_situation, Signallers.is_empty, Release.MayCall, Legal.IsLegal}
+use Rattle.monk_history.specs.Meaning.Counts.{events_of, left_of, grants, granted_of, is_enter, enters_of}
 use Rattle.monk_history.specs.Meaning.Reasons.{is_in_range, is_condition, fits_object, IsAllowed}
+use Rattle.monk_history.specs.Meaning.Events.{seat_of, next_of, named_seat, waits_on, signals_on}
+use Rattle.monk_history.specs.Meaning.Conditions.{waiting_by, served_by}
 use Rattle.monk_history.specs.Meaning.Standing.{times, times_in_conditions, in_queues}
 use Rattle.monk_history.specs.Meaning.Turn.{turn_by, is_enter_of, is_exit_of}
-use Rattle.monk_history.specs.Meaning.Conditions.{waiting_by, served_by}
-use Rattle.monk_history.specs.Meaning.Counts.{events_of, left_of, grants, granted_of, is_enter, enters_of}
-use Rattle.monk_history.specs.Meaning.Events.{seat_of, next_of, named_seat, waits_on, signals_on}
+use Rattle.monk_history.specs.Limits.{most_seats, most_conds, most_budget, most_lines}
 use Rattle.monk_history.specs.declared.event.{Event.Event, Turn.Turn, Turn.TheVariants.Open}
 use Rattle.monk_floor.specs.{View.FloorView, View.monitor_of, Kept.shown_situation, Kept.KeepsHistory, Ready.HasRoomFor}
 use Rattle.monk_floor.specs.Queues.{QueueLists, queue_at, in_lists, IsMoved}
-use Rattle.std.proofs.lemmas.Bool.Decides.{nat_tests}
 
 range_waits : (m : Monitor) (e : Event) → is_in_range m.seats m.conds m.object.codes m.object.predicates e ≡ true
     → is_condition m.conds (waits_on e) ≡ true

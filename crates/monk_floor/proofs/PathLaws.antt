@@ -1,25 +1,24 @@
 -- The choice by the path of a mode, with what a floor keeps
 use Rattle.std.proofs.Common.{◌≡◌, ℕ, Bool, true, false, Option, List, ◌++◌, refl, sym, ap, subst, ◌∙◌, arith}
+use Rattle.std.proofs.{lemmas.Bool.Decides.nat_tests, Common.rules}
 use Rattle.std.specs.Prelude.{slice_get, nat_le}
-use Rattle.monk_kinds.specs.Kind.{IsKind}
 use Rattle.monk_kinds.specs.declared.mode.{Rules.Rules, Pick.Pick}
 use Rattle.monk_kinds.specs.declared.mode.Mode.TheVariants.{Blocking, NonBlocking, QuasiBlocking, Automatic}
+use Rattle.monk_kinds.specs.Kind.{IsKind}
 use Rattle.monk_history.proofs.PublicLaws.Meaning.{non_blocking, blocking, quasi_blocking, waiter_path, ready_path}
 use Rattle.monk_history.proofs.PublicLaws.Meaning.{signaller_path, served_path, equal_path, signal_stays}
-use Rattle.monk_history.specs.Meaning.{Events.seat_of, Events.has_conditions, Monitor.Monitor, Situation.situation}
-use Rattle.monk_history.specs.Meaning.{Waiters.serves, Signallers.signals, Untils.ready_of}
-use Rattle.monk_history.specs.Meaning.{Choice.must_stay, Release.MayCall, Release.choice_of}
+use Rattle.monk_history.specs.Meaning.{Monitor.Monitor, Situation.situation, Waiters.serves, Signallers.signals}
+use Rattle.monk_history.specs.Meaning.{Untils.ready_of, Choice.must_stay, Release.MayCall, Release.choice_of}
+use Rattle.monk_history.specs.Meaning.Events.{seat_of, has_conditions}
 use Rattle.monk_history.specs.Meaning.Paths.{keeps_signallers, single_choice, equal_choice, served_choice}
-use Rattle.monk_history.specs.declared.event.{Next.Next, Next.TheVariants.Stay, Turn.Turn}
+use Rattle.monk_history.specs.declared.event.{Turn.Turn, Event.Event, Event.TheVariants.Signal}
+use Rattle.monk_history.specs.declared.event.Next.{Next, TheVariants.Stay}
 use Rattle.monk_history.specs.declared.event.From3.TheVariants.{Waiter as FromWaiter, Signaller as FromSignaller}
 use Rattle.monk_history.specs.declared.event.From3.TheVariants.{Until as FromUntil}
-use Rattle.monk_history.specs.declared.event.Event.{Event, TheVariants.Signal}
 use Rattle.monk_floor.proofs.ChoiceLaws.{kept_stay, kept_allowed, stays_is}
-use Rattle.monk_floor.specs.{Chosen.IsChosen, Queues.QueueLists, Queues.queue_at, Ready.stays_by, Releases.IsReplyless}
-use Rattle.monk_floor.specs.{Releases.MakesNoSignaller, Releases.ServesNobody, View.FloorView, View.monitor_of}
-use Rattle.monk_floor.specs.Kept.{KeepsHistory}
-use Rattle.std.proofs.lemmas.Bool.Decides.{nat_tests}
-use Rattle.std.proofs.Common.{rules}
+use Rattle.monk_floor.specs.{Chosen.IsChosen, Ready.stays_by, View.FloorView, View.monitor_of, Kept.KeepsHistory}
+use Rattle.monk_floor.specs.Releases.{IsReplyless, MakesNoSignaller, ServesNobody}
+use Rattle.monk_floor.specs.Queues.{QueueLists, queue_at}
 
 abbrev pub view : Monitor → ℕ → List Event → FloorView
 view m budget h = record { opening = m.opening; seats = m.seats; conds = m.conds; budget = budget; history = h }

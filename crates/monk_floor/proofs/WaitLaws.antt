@@ -1,11 +1,10 @@
 -- The waits-until, one after another
 use Rattle.std.proofs.Common.{◌≡◌, ℕ, zero, suc, ◌<◌, ◌≤◌, ◌+◌, ◌==◌, true, false, cond, Option, Some, None, List, [], ◌∷◌, All}
 use Rattle.std.proofs.Common.{length, drop, refl, sym, ap, subst, ◌∙◌, arith, eq-eqb, get_or, add-one}
-use Rattle.std.specs.Prelude.{slice_get}
+use Rattle.std.{specs.Prelude.slice_get, proofs.lemmas.Bool.Decides.nat_tests}
 use Rattle.monk_object.specs.Object.{Object}
 use Rattle.monk_history.specs.Meaning.{Standing.times, Untils.ready_of}
 use Rattle.monk_floor.{specs.Queues.waits_in, specs.Queues.times_in_waits, proofs.ShownLaws.seats_back}
-use Rattle.std.proofs.lemmas.Bool.Decides.{nat_tests}
 
 pub times_back : (s : ℕ) (p xs : List ℕ) → times_in_waits s (waits_in p xs) ≡ times s xs
 times_back s p xs = ap (times s) (seats_back p xs)

@@ -1,21 +1,19 @@
 -- If no seat is in a queue, every queue is empty, and a leave lets the entry in
 use Rattle.std.proofs.Common.{◌≡◌, ℕ, zero, suc, ◌*◌, ◌==◌, ◌<◌, ◌≤◌, ◌⊎◌, cond, Bool, false, nat_lt}
 use Rattle.std.proofs.Common.{List, [], ◌∷◌, ◌++◌, map, length, sym, refl, ap, ◌∙◌, subst, inl, inr, arith, eq-eqb}
-use Rattle.std.proofs.lemmas.List.{nil_from_length}
+use Rattle.std.proofs.lemmas.{List.nil_from_length, Bool.Decides.nat_tests}
 use Rattle.monk_kinds.specs.declared.mode.{Pick.TheVariants.Entry as WishEntry, Rules.Rules}
 use Rattle.monk_object.specs.Object.{Object}
 use Rattle.monk_history.specs.declared.event.Next.TheVariants as next
 use Rattle.monk_history.proofs.PublicLaws.Meaning.{legal_seated, IsSeated, times_le_conditions, legal_placed}
-use Rattle.monk_history.specs.Meaning.{Conditions.condition, Counts.events_of}
-use Rattle.monk_history.specs.Meaning.{Legal.IsLegal, Release.choice_of, Situation.Situation, Situation.situation}
-use Rattle.monk_history.specs.Meaning.Monitor.{Monitor, data_of}
+use Rattle.monk_history.specs.Meaning.{Conditions.condition, Counts.events_of, Legal.IsLegal, Release.choice_of}
+use Rattle.monk_history.specs.Meaning.{Situation.Situation, Situation.situation, Monitor.Monitor, Monitor.data_of}
 use Rattle.monk_history.specs.Meaning.Standing.{times, in_queues, IsPlaced}
 use Rattle.monk_history.specs.declared.event.{Event.Event, Event.TheVariants.Leave, Next.Next}
 use Rattle.monk_floor.specs.{Grown.IsGrown, View.FloorView, View.monitor_of, View.stands_of}
 use Rattle.monk_hall.proofs.{Private.own_event, ReleaseLaws.peeked_none}
-use Rattle.monk_hall.specs.Tokens.{Holder}
 use Rattle.monk_hall.specs.Closing.{HasNobody, HasSomebody, IsUnqueued, IsEnded, IsBusy}
-use Rattle.std.proofs.lemmas.Bool.Decides.{nat_tests}
+use Rattle.monk_hall.specs.Tokens.{Holder}
 
 empty_of : (xs : List ℕ) → ((j : ℕ) → times j xs ≡ 0) → xs ≡ []
 empty_of [] none = refl

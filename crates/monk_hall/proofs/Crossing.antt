@@ -3,23 +3,24 @@ use denote.RattleType.{RattleType}
 use denote.Param.Send.{IsSend, IsSync, AllSend, AllSync, sendable, part_keyless, struct_send, struct_sync}
 use denote.Param.Send.{recorded_send, recorded_sync, view_send, view_sync}
 use denote.Struct.Declared.{shape}
-use Rattle.std.proofs.Crossing.{crosses, frees, Box-send, Vec-send, Vec-sync, send as heap_send, sync as heap_sync}
 use Rattle.std.specs.contracts.alloc.Global as Heap
-use Rattle.std.specs.contracts.impls.GlobalAllocator.TheImpl.{ghosts}
 use Rattle.std.specs.contracts.option.Option as Option
-use Rattle.atomic_table.proofs.Sent.{owns_keyless, shares_keyless, badge_keyless, seat_keyless}
-use Rattle.atomic_table.proofs.Rights.{right_send}
+use Rattle.std.specs.contracts.collections.LinkedList as LinkedList
+use Rattle.std.proofs.{lemmas.Bool.Decides.nat_tests, Common.arith, Common.rules}
+use Rattle.std.proofs.Crossing.{crosses, frees, Box-send, Vec-send, Vec-sync, send as heap_send, sync as heap_sync}
+use Rattle.std.specs.contracts.impls.GlobalAllocator.TheImpl.{ghosts}
 use Rattle.atomic_table.specs.contracts.badge.Badge as Badge
 use Rattle.atomic_table.specs.contracts.owned.Table as Table
 use Rattle.atomic_table.specs.contracts.send_lease.SendLease as SendLease
 use Rattle.atomic_table.specs.contracts.shared.Seat as TableSeat
 use Rattle.atomic_table.specs.contracts.shared.Shared as Shared
 use Rattle.atomic_table.specs.declared.shared.TableRule as TableRule
+use Rattle.atomic_table.proofs.Sent.{owns_keyless, shares_keyless, badge_keyless, seat_keyless}
+use Rattle.atomic_table.proofs.Rights.{right_send}
 use Rattle.monk_kinds.specs.declared.kind.Kind as Kind
 use Rattle.monk_object.specs.declared.guarded.Guarded as Guarded
 use Rattle.monk_floor.proofs.PublicLaws.{floor_send}
 use Rattle.monk_world.specs.contracts.place.Place as Place
-use Rattle.std.specs.contracts.collections.LinkedList as LinkedList
 use Rattle.monk_hall.specs.contracts.active.Active as Active
 use Rattle.monk_hall.specs.contracts.active.Active.TheInside as ActiveInside
 use Rattle.monk_hall.specs.contracts.boxed_floor.BoxedFloor as BoxedFloor
@@ -39,8 +40,6 @@ use Rattle.monk_hall.specs.contracts.parked.Parked as Parked
 use Rattle.monk_hall.specs.contracts.parked.Parked.TheInside as ParkedInside
 use Rattle.monk_hall.specs.contracts.pass.Pass as Pass
 use Rattle.monk_hall.specs.contracts.pass.Pass.TheInside as PassInside
-use Rattle.std.proofs.lemmas.Bool.Decides.{nat_tests}
-use Rattle.std.proofs.Common.{arith, rules}
 
 shared_sync : (S V K P : RattleType) (g : TableRule.Ghosts P.Denot S.Denot V.Denot K.Denot) → IsSend S
     → IsSync (Shared.the_row S V K P g)

@@ -1,8 +1,8 @@
 -- The table at the start, and how a record goes from one view to a seat of its own
 use Rattle.std.proofs.Common.{◌≡◌, ◌≢◌, ℕ, zero, suc, ◌+◌, ◌-◌, ◌<◌, ◌≤◌, ◌⊎◌, cond, Bool, true, false, ◌||◌, nat_lt}
 use Rattle.std.proofs.Common.{List, [], ◌∷◌, ◌++◌, length, set, replicate, sym, refl, ap, ◌∙◌, subst, inl, inr, ⊎_elim}
-use Rattle.std.proofs.{Common.arith, Math.Option.some-injective, lemmas.Bool.Decides.eqb_tells}
-use Rattle.std.specs.Prelude.{Some, None, slice_index}
+use Rattle.std.{proofs.Common.arith, proofs.Math.Option.some-injective, proofs.lemmas.Bool.Decides.eqb_tells}
+use Rattle.std.{proofs.lemmas.Bool.Decides.nat_tests, specs.Prelude.Some, specs.Prelude.None, specs.Prelude.slice_index}
 use mathlib.Core.Option as maybe
 use mathlib.Core.Path.{Path}
 use lib.ListN.{get_elem?}
@@ -11,18 +11,17 @@ use Rattle.atomic_table.specs.{Seated.TableId, Table.opening}
 use Rattle.monk_kinds.specs.declared.mode.Rules.{Rules}
 use Rattle.monk_object.specs.Object.{Object}
 use Rattle.monk_history.proofs.PublicLaws.Meaning.{granted_none, legal_none}
-use Rattle.monk_history.specs.Limits.{most_seats, most_conds, least_budget, most_budget}
 use Rattle.monk_history.specs.Meaning.Counts.{events_of}
+use Rattle.monk_history.specs.Limits.{most_seats, most_conds, least_budget, most_budget}
 use Rattle.monk_world.proofs.PublicLaws.{update_here, update_else, opening_kept}
 use Rattle.monk_world.specs.{Kept.IsKept, Update.update, Runs.opening_state, State.State}
 use Rattle.monk_floor.specs.declared.fault.MakeFault.TheVariants as fault
 use Rattle.monk_floor.specs.{Making.make_refusal, View.monitor_of}
 use Rattle.monk_hall.proofs.Seats.{long, only}
 use Rattle.monk_hall.specs.{Laws.HallState, Rule.AreShown, Rule.IsHall, Tokens.Token, Tokens.IsResting, Tokens.tokens}
-use Rattle.monk_hall.specs.Records.{View, In, Distinct, opening_record, opening_records, first_view}
 use Rattle.monk_hall.specs.Layout.{tickets, unpassed, word_count, place_word, seat_word, floor_of, shown_state}
 use Rattle.monk_hall.specs.declared.{record.SeatRecord.SeatRecord, setting.Setting.Setting}
-use Rattle.std.proofs.lemmas.Bool.Decides.{nat_tests}
+use Rattle.monk_hall.specs.Records.{View, In, Distinct, opening_record, opening_records, first_view}
 
 -- one of the records of n seats from i on
 record IsFresh (c : Setting) (n i : ℕ) (r : SeatRecord) : Type 0 where

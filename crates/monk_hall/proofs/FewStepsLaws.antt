@@ -1,23 +1,22 @@
 -- How few steps each call takes
 use Rattle.std.proofs.Common.{◌≡◌, ℕ, zero, suc, ◌+◌, ◌≤◌, Bool, false, true, List, [], ◌∷◌, ◌++◌, length, refl, sym, ap}
 use Rattle.std.proofs.Common.{◌∙◌, inl, inr, arith, append_assoc, length-append, Option, Some, None}
-use Rattle.std.proofs.lemmas.{List.Sums.sum_by-append, Option.none-some, Option.same_Some}
+use Rattle.std.proofs.lemmas.{List.Sums.sum_by-append, Option.none-some, Option.same_Some, Bool.Decides.nat_tests}
 use Rattle.monk_kinds.specs.declared.mode.Rules.{Rules}
 use Rattle.monk_object.specs.Object.{Object}
 use Rattle.monk_history.specs.{Meaning.Counts.enters_of, declared.event.Event.Event}
 use Rattle.monk_world.specs.declared.place.Place.{Place}
 use Rattle.monk_hall.proofs.HandingLaws.{grants_by}
-use Rattle.monk_hall.specs.{Calls.peeks_at, Changes.since, Handing.HandsOn, Handing.seat_called_by}
-use Rattle.monk_hall.specs.{NextTicket.IsLooking, Tokens.Token, Tokens.Holder, Tokens.House}
+use Rattle.monk_hall.specs.{Calls.peeks_at, Changes.since, NextTicket.IsLooking, Granting.Grant, Granting.granted_last}
 use Rattle.monk_hall.specs.FewSteps.{ArrivalsAreFewSteps, PollsAreFewSteps, ComesInFewSteps, ReleasesAreFewSteps}
 use Rattle.monk_hall.specs.FewSteps.{StaysAreFewSteps, BusyIsFewSteps, GrantsAreSteps, UnlookedLearnsNothing}
 use Rattle.monk_hall.specs.FewSteps.{IsGrantFor, HasStepped}
-use Rattle.monk_hall.specs.Granting.{Grant, granted_last}
-use Rattle.monk_hall.specs.Deeds.{knows_from, looks_in, looks_of, steps_of, look_at, looks_in_vain}
-use Rattle.monk_hall.specs.declared.record.SeatRecord.{SeatRecord}
 use Rattle.monk_hall.specs.declared.deed.Deed.{Deed}
 use Rattle.monk_hall.specs.declared.deed.Deed.TheVariants.{Peek, FloorOut, FloorIn, Drop, GrantTicket, CallSeat}
-use Rattle.std.proofs.lemmas.Bool.Decides.{nat_tests}
+use Rattle.monk_hall.specs.declared.record.SeatRecord.{SeatRecord}
+use Rattle.monk_hall.specs.Handing.{HandsOn, seat_called_by}
+use Rattle.monk_hall.specs.Tokens.{Token, Holder, House}
+use Rattle.monk_hall.specs.Deeds.{knows_from, looks_in, looks_of, steps_of, look_at, looks_in_vain}
 
 -- more deeds are more looks and more steps
 stepped : (looks most : ℕ) (r w : SeatRecord) (ds : List Deed) → w.did ≡ r.did ++ ds → looks_of ds ≡ looks

@@ -1,7 +1,7 @@
 -- The active seat takes the floor home
 use Rattle.std.proofs.Common.{◌≡◌, ◌≢◌, ℕ, ◌+◌, ◌<◌, ◌≤◌, cond, Bool, false, List, [], ◌∷◌, ◌++◌, length, set, sym}
 use Rattle.std.proofs.Common.{refl, ap, ◌∙◌, subst, arith, append-nil, append_assoc, length-append}
-use Rattle.std.proofs.{Common.length-set, lemmas.Bool.Decides.eqb_tells}
+use Rattle.std.proofs.{Common.length-set, lemmas.Bool.Decides.eqb_tells, lemmas.Bool.Decides.nat_tests}
 use Rattle.std.specs.{List.last_or, Prelude.Option, Prelude.Some, Prelude.None}
 use mathlib.Core.Option as maybe
 use mathlib.Core.Path.{Path}
@@ -17,13 +17,12 @@ use Rattle.monk_history.specs.Meaning.Release.{MayCall, with_next, choice_of}
 use Rattle.monk_history.specs.declared.event.{Event.Event, Next.Next, Turn.TheVariants.Owned}
 use Rattle.monk_world.specs.declared.answer.Answer.TheVariants as answer
 use Rattle.monk_world.proofs.PublicLaws.{held, at_update, update_here, names_chosen}
-use Rattle.monk_world.specs.{Kept.IsKept, Update.update, Sound.left_within, State.State, State.with_event}
-use Rattle.monk_world.specs.{StepTable.IsStep, StepTable.out_event, Steps.after_floor_in, World.World}
-use Rattle.monk_world.specs.Places.{stage, back_turn, due_to, turn_of_next, due_stage, active_stage, back_stage}
-use Rattle.monk_world.specs.Places.{passing_stage}
-use Rattle.monk_world.specs.declared.place.Place.{Place}
-use Rattle.monk_world.specs.declared.place.Place.TheVariants.{Active, Back}
-use Rattle.monk_world.specs.declared.source.Source.{Source}
+use Rattle.monk_world.specs.{Kept.IsKept, Update.update, Sound.left_within, StepTable.IsStep, StepTable.out_event}
+use Rattle.monk_world.specs.{Steps.after_floor_in, World.World, Places.stage, Places.back_turn, Places.due_to}
+use Rattle.monk_world.specs.{Places.turn_of_next, Places.due_stage, Places.active_stage, Places.back_stage}
+use Rattle.monk_world.specs.{Places.passing_stage, declared.place.Place.Place, declared.place.Place.TheVariants.Active}
+use Rattle.monk_world.specs.{declared.place.Place.TheVariants.Back, declared.source.Source.Source}
+use Rattle.monk_world.specs.State.{State, with_event}
 use Rattle.monk_floor.specs.View.{FloorView, monitor_of, stands_of}
 use Rattle.monk_hall.proofs.Frame as frame
 use Rattle.monk_hall.proofs.Private as private
@@ -33,9 +32,8 @@ use Rattle.monk_hall.proofs.Standing as standing
 use Rattle.monk_hall.proofs.Stepping as stepping
 use Rattle.monk_hall.specs.{Floors.StartsWith, Floors.ArePrivate, Laws.BringsHome, Layout.floor_of, Layout.shown_state}
 use Rattle.monk_hall.specs.{Layout.shown_world, Records.View, Rule.IsHall, Rule.AreTold, Rule.CountsCalls}
-use Rattle.monk_hall.specs.{Tells.Returns, declared.record.SeatRecord.SeatRecord, declared.setting.Setting.Setting}
-use Rattle.monk_hall.specs.Changes.{record_after_floor_in, source_from, back_after}
-use Rattle.std.proofs.lemmas.Bool.Decides.{nat_tests}
+use Rattle.monk_hall.specs.{Tells.Returns, Changes.record_after_floor_in, Changes.source_from, Changes.back_after}
+use Rattle.monk_hall.specs.declared.{record.SeatRecord.SeatRecord, setting.Setting.Setting}
 
 last_more : (o : Option Event) (es : List Event) (e : Event) → last_or o (es ++ e ∷ []) ≡ Some e
 last_more o [] e = refl

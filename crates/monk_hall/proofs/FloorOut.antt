@@ -1,6 +1,6 @@
 -- The floor comes out to the seat that is due
 use Rattle.std.proofs.Common.{◌≡◌, ◌≢◌, ℕ, ◌≤◌, false, List, [], ◌∷◌, ◌++◌, set, sym, refl, ap, ◌∙◌}
-use Rattle.std.proofs.Common.{subst, arith, length-set}
+use Rattle.std.proofs.{Common.subst, Common.arith, Common.length-set, lemmas.Bool.Decides.nat_tests}
 use Rattle.std.specs.Prelude.{Option, Some}
 use mathlib.Core.Option as maybe
 use mathlib.Core.Path.{Path}
@@ -14,12 +14,12 @@ use Rattle.monk_history.{specs.declared.event.Event.Event, proofs.PublicLaws.Mea
 use Rattle.monk_world.specs.declared.answer.Answer.TheVariants as answer
 use Rattle.monk_world.specs.declared.command.Command.TheVariants as command
 use Rattle.monk_world.proofs.PublicLaws.{IsReady, entered_here, held, at_update, update_here}
-use Rattle.monk_world.specs.{Enters.used_at, Kept.IsKept, Places.stage, Places.ticket, Places.source, Places.back_turn}
-use Rattle.monk_world.specs.{Places.due_stage, Places.active_stage, Places.back_stage, Places.granted_source}
-use Rattle.monk_world.specs.{Update.update, Sound.left_at, State.State, State.with_event, StepTable.IsStep}
-use Rattle.monk_world.specs.{StepTable.out_event, Steps.after_floor_out, World.World}
-use Rattle.monk_world.specs.declared.place.Place.{Place, TheVariants.Due, TheVariants.Active}
+use Rattle.monk_world.specs.{Enters.used_at, Kept.IsKept, Update.update, Sound.left_at, State.State, State.with_event}
+use Rattle.monk_world.specs.{StepTable.IsStep, StepTable.out_event, Steps.after_floor_out, World.World}
 use Rattle.monk_world.specs.declared.source.Source.{Source, TheVariants.Free, TheVariants.Granted}
+use Rattle.monk_world.specs.declared.place.Place.{Place, TheVariants.Due, TheVariants.Active}
+use Rattle.monk_world.specs.Places.{stage, ticket, source, back_turn, due_stage, active_stage, back_stage}
+use Rattle.monk_world.specs.Places.{granted_source}
 use Rattle.monk_floor.specs.View.{FloorView, monitor_of}
 use Rattle.monk_hall.proofs.Frame as frame
 use Rattle.monk_hall.proofs.Seats as seats
@@ -27,10 +27,8 @@ use Rattle.monk_hall.proofs.Standing as standing
 use Rattle.monk_hall.proofs.Stepping as stepping
 use Rattle.monk_hall.proofs.Knows.{calls_stay}
 use Rattle.monk_hall.specs.{Floors.StartsWith, Floors.Finds, Laws.Takes, Records.View, Rule.IsHall, Rule.AreTold}
-use Rattle.monk_hall.specs.Changes.{record_after_floor_out, source_from}
-use Rattle.monk_hall.specs.Layout.{floor_of, shown_state, shown_world}
-use Rattle.monk_hall.specs.declared.{record.SeatRecord.SeatRecord, setting.Setting.Setting}
-use Rattle.std.proofs.lemmas.Bool.Decides.{nat_tests}
+use Rattle.monk_hall.specs.{Changes.record_after_floor_out, Changes.source_from, Layout.floor_of, Layout.shown_state}
+use Rattle.monk_hall.specs.{Layout.shown_world, declared.record.SeatRecord.SeatRecord, declared.setting.Setting.Setting}
 
 module _ (k : Rules) (o : Object) (c : Setting) (kind : IsKind k) (s : table.State (Option FloorView) View)
     (h : IsHall k o c s) (id : ℕ) (r : SeatRecord) (here : get_elem? s.views id ≡ maybe.some (r ∷ []))

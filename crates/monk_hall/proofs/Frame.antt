@@ -1,7 +1,7 @@
 -- What every step of the table uses: the shown world takes a step of a world, and what its history holds
 use Rattle.std.proofs.Common.{◌≡◌, ◌≢◌, ℕ, ◌==◌, ◌<◌, ◌≤◌, ◌⊎◌, cond, Bool, true, false, ◌&&◌, not, nat_lt}
 use Rattle.std.proofs.Common.{List, [], ◌∷◌, ◌++◌, sym, refl, ap, ◌∙◌, subst, inl, inr, arith, ne_eqb, append-nil}
-use Rattle.std.proofs.{Common.append_assoc, lemmas.Bool.Decides.eqb_tells}
+use Rattle.std.proofs.{Common.append_assoc, lemmas.Bool.Decides.eqb_tells, lemmas.Bool.Decides.nat_tests}
 use Rattle.std.specs.Prelude.{Option, Some, None}
 use Rattle.monk_kinds.specs.{Kind.IsKind, declared.mode.Rules.Rules}
 use Rattle.monk_object.specs.Object.{Object}
@@ -13,15 +13,14 @@ use Rattle.monk_world.proofs.PublicLaws.{IsReady, kept_done, held, active_is}
 use Rattle.monk_world.specs.{Kept.IsKept, Places.stage, Places.active_stage, Sound.IsSound, State.State, World.World}
 use Rattle.monk_world.specs.StepTable.{IsDone, IsStep, IsAnswered, refusal, out_event, call_of, is_call_in_range}
 use Rattle.monk_world.specs.StepTable.{is_call_offered, may_be_told, left_for}
-use Rattle.monk_world.specs.Enters.{FitsEnters, used_at}
 use Rattle.monk_world.specs.Right.{Whereabouts, Nowhere, AtTicket, With, AtSeat, KeepsRight}
 use Rattle.monk_world.specs.declared.{answer.Answer.Answer, command.Command.Command}
+use Rattle.monk_world.specs.declared.source.Source.{Source, TheVariants.Free, TheVariants.Granted, TheVariants.Called}
 use Rattle.monk_world.specs.declared.place.Place.{Place}
 use Rattle.monk_world.specs.declared.place.Place.TheVariants.{Idle, Ticket, Due, Active, Back, Passing, Inner}
-use Rattle.monk_world.specs.declared.source.Source.{Source, TheVariants.Free, TheVariants.Granted, TheVariants.Called}
+use Rattle.monk_world.specs.Enters.{FitsEnters, used_at}
 use Rattle.monk_hall.specs.{Floors.StartsWith, Layout.shown_world, Rule.AreTold, Rule.Homes}
 use Rattle.monk_hall.specs.declared.{record.SeatRecord.SeatRecord, setting.Setting.Setting}
-use Rattle.std.proofs.lemmas.Bool.Decides.{nat_tests}
 
 passes : (reach offered told tired : Bool) → reach ≡ true → offered ≡ true → told ≡ true → tired ≡ false
     → cond (not reach) (Some answer.Range)

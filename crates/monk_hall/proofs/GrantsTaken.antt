@@ -1,7 +1,7 @@
 -- A grant is in its word until the seat that it is for finds it there
 use Rattle.std.proofs.Common.{◌≡◌, ◌≢◌, ℕ, ◌+◌, ◌<◌, ◌⊎◌, Bool, true, List, [], ◌∷◌, ◌++◌, sym, refl}
 use Rattle.std.proofs.Common.{ap, subst, ◌∙◌, inl, inr, ⊎_elim, arith, eq-eqb, get_or-set_other}
-use Rattle.std.proofs.lemmas.{Bool.Decides.eqb_tells, Option.none-some}
+use Rattle.std.proofs.lemmas.{Bool.Decides.eqb_tells, Bool.Decides.nat_tests, Option.none-some}
 use Rattle.std.specs.Prelude.{Some, slice_index}
 use mathlib.Core.Option.{some}
 use lib.ListN.{get_elem?}
@@ -13,19 +13,18 @@ use Rattle.monk_world.specs.declared.place.Place.{Place}
 use Rattle.monk_world.specs.declared.place.Place.TheVariants.{Idle, Ticket, Due, Active, Back, Passing, Inner}
 use Rattle.monk_hall.proofs.Standing as standing
 use Rattle.monk_hall.proofs.{RecordLaws.is, RuleLaws.right_in_one_place, ScheduleLaws.IsLed}
-use Rattle.monk_hall.proofs.ScheduleMoves.{IsMoveOf, each_as, step_led, led_by, led_opening}
 use Rattle.monk_hall.proofs.GrantStands.{Stands, at_next, others_stay, grant_stands}
+use Rattle.monk_hall.proofs.ScheduleMoves.{IsMoveOf, each_as, step_led, led_by, led_opening}
 use Rattle.monk_hall.specs.{Deeds.look_at, Laws.HallState, Laws.IsRecord, NextTicket.IsLooking, Rule.IsHall, Rule.Homes}
-use Rattle.monk_hall.specs.Schedules.{Step, By, Deal, Part, Join, Compare, IsDone, IsStep, IsSchedule, after_step}
-use Rattle.monk_hall.specs.Schedules.{opening_table}
+use Rattle.monk_hall.specs.Layout.{seat_word, waiting_word_at, shown_world}
+use Rattle.monk_hall.specs.GrantsInTurn.{granted_word, IsTaken, IsTakenBetween, GrantsComeInTurn}
 use Rattle.monk_hall.specs.declared.{record.SeatRecord.SeatRecord, setting.Setting.Setting}
 use Rattle.monk_hall.specs.declared.deed.Deed.{Deed}
 use Rattle.monk_hall.specs.declared.deed.Deed.TheVariants.{Arrive, LookForTicket, LookForCall, Peek, FloorOut, FloorIn}
 use Rattle.monk_hall.specs.declared.deed.Deed.TheVariants.{Drop, GrantTicket, CallSeat, Meet}
 use Rattle.monk_hall.specs.Changes.{record_after_arrive, record_after_ticket_look, record_after_seat_look}
-use Rattle.monk_hall.specs.GrantsInTurn.{granted_word, IsTaken, IsTakenBetween, GrantsComeInTurn}
-use Rattle.monk_hall.specs.Layout.{seat_word, waiting_word_at, shown_world}
-use Rattle.std.proofs.lemmas.Bool.Decides.{nat_tests}
+use Rattle.monk_hall.specs.Schedules.{Step, By, Deal, Part, Join, Compare, IsDone, IsStep, IsSchedule, after_step}
+use Rattle.monk_hall.specs.Schedules.{opening_table}
 
 -- a grant is still there if neither the seat nor its word changes
 stands_still : (c : Setting) (words ws : List ℕ) (at bt : ℕ → SeatRecord) (j w : ℕ) → Stands c words at j w

@@ -2,7 +2,7 @@
 -- and then with the seat that has read it there
 use Rattle.std.proofs.Common.{◌≡◌, ◌≢◌, ℕ, ◌+◌, ◌-◌, ◌==◌, ◌<◌, ◌⊎◌, Bool, true, false, List, [], ◌∷◌, ◌++◌}
 use Rattle.std.proofs.Common.{set, sym, refl, ap, subst, ◌∙◌, inl, inr, ⊎_elim, cond, arith, get_or-set_other, get_or-set_same}
-use Rattle.std.proofs.lemmas.{Bool.Decides.eqb_tells, Option.none-some, Option.same_Some}
+use Rattle.std.proofs.lemmas.{Bool.Decides.eqb_tells, Bool.Decides.nat_tests, Option.none-some, Option.same_Some}
 use Rattle.std.specs.Prelude.{Some, None, slice_index}
 use mathlib.Core.Option.{some}
 use lib.ListN.{get_elem?}
@@ -13,28 +13,27 @@ use Rattle.monk_history.specs.Meaning.Counts.{granted_of}
 use Rattle.monk_history.specs.declared.event.{Event.Event, Next.TheVariants.Entry}
 use Rattle.monk_floor.specs.View.{FloorView}
 use Rattle.monk_world.proofs.PublicLaws.{few_drawn}
-use Rattle.monk_world.specs.Places.{HoldsRight, stage, ticket, place_of, outside_stage, ticketed_stage, due_stage}
-use Rattle.monk_world.specs.Places.{active_stage, back_stage, passing_stage, inside_stage}
 use Rattle.monk_world.specs.Steps.{place_after_arrive, place_after_ticket_look, place_after_seat_look, place_after_drop}
 use Rattle.monk_world.specs.OnePlace.{IsInOnePlace}
+use Rattle.monk_world.specs.declared.home.Home.{Home}
 use Rattle.monk_world.specs.declared.place.Place.{Place}
 use Rattle.monk_world.specs.declared.place.Place.TheVariants.{Idle, Ticket, Due, Active, Back, Passing, Inner}
-use Rattle.monk_world.specs.declared.home.Home.{Home}
+use Rattle.monk_world.specs.Places.{HoldsRight, stage, ticket, place_of, outside_stage, ticketed_stage, due_stage}
+use Rattle.monk_world.specs.Places.{active_stage, back_stage, passing_stage, inside_stage}
 use Rattle.monk_hall.proofs.FloorIn as floor_in
 use Rattle.monk_hall.proofs.Standing as standing
 use Rattle.monk_hall.proofs.WordSteps as words
-use Rattle.monk_hall.proofs.{GrantSteps.choosing_at, Packed.after_take_off, ScheduleLaws.IsLed, ScheduleMoves.step_led}
-use Rattle.monk_hall.proofs.{ScheduleMoves.led_by, ScheduleMoves.led_opening, ScheduleReturns.returns, Seats.long}
+use Rattle.monk_hall.proofs.{GrantSteps.choosing_at, Packed.after_take_off, ScheduleLaws.IsLed, ScheduleReturns.returns}
+use Rattle.monk_hall.proofs.{Seats.long, RecordLaws.is, RecordLaws.cases_le}
 use Rattle.monk_hall.proofs.RuleLaws.{one_has_the_right, right_in_one_place}
-use Rattle.monk_hall.proofs.RecordLaws.{is, cases_le}
-use Rattle.monk_hall.proofs.GrantStands.{Stands, at_next, others_stay, grant_stands}
 use Rattle.monk_hall.proofs.GrantsTaken.{not_first, holds_due, holds_passing, holds_chosen, nobody_holds, moved_stays}
 use Rattle.monk_hall.proofs.GrantsTaken.{taken_or_stands, no_second}
+use Rattle.monk_hall.proofs.GrantStands.{Stands, at_next, others_stay, grant_stands}
+use Rattle.monk_hall.proofs.ScheduleMoves.{step_led, led_by, led_opening}
 use Rattle.monk_hall.specs.{Deeds.look_at, GrantsInTurn.IsTaken, Rule.IsHall, Rule.Homes}
-use Rattle.monk_hall.specs.Schedules.{Step, By, Deal, Part, Join, Compare, IsDone, IsStep, IsSchedule, after_step}
-use Rattle.monk_hall.specs.Schedules.{opening_table}
-use Rattle.monk_hall.specs.HandOver.{written_word, read_word, takes_out, NoneTakesOut, IsFoundBetween, IsHandedOver}
-use Rattle.monk_hall.specs.HandOver.{FloorChangesHands, OnlyRead, NeverByReadsAlone}
+use Rattle.monk_hall.specs.Layout.{tickets, unpassed, one_drawn, one_passed, ticket_word, seat_word, waiting_word_at}
+use Rattle.monk_hall.specs.Layout.{floor_of, shown_state, shown_world}
+use Rattle.monk_hall.specs.Laws.{HallState, IsRecord, first_word}
 use Rattle.monk_hall.specs.declared.{record.SeatRecord.SeatRecord, setting.Setting.Setting}
 use Rattle.monk_hall.specs.declared.deed.Deed.{Deed}
 use Rattle.monk_hall.specs.declared.deed.Deed.TheVariants.{Arrive, LookForTicket, LookForCall, Peek, FloorOut, FloorIn}
@@ -42,10 +41,10 @@ use Rattle.monk_hall.specs.declared.deed.Deed.TheVariants.{Drop, GrantTicket, Ca
 use Rattle.monk_hall.specs.Changes.{record_after_arrive, record_after_ticket_look, record_after_seat_look}
 use Rattle.monk_hall.specs.Changes.{record_after_peek, record_after_floor_out, record_after_floor_in, record_after_drop}
 use Rattle.monk_hall.specs.Changes.{record_after_grant, home_at}
-use Rattle.monk_hall.specs.Laws.{HallState, IsRecord, first_word}
-use Rattle.monk_hall.specs.Layout.{tickets, unpassed, one_drawn, one_passed, ticket_word, seat_word, waiting_word_at}
-use Rattle.monk_hall.specs.Layout.{floor_of, shown_state, shown_world}
-use Rattle.std.proofs.lemmas.Bool.Decides.{nat_tests}
+use Rattle.monk_hall.specs.HandOver.{written_word, read_word, takes_out, NoneTakesOut, IsFoundBetween, IsHandedOver}
+use Rattle.monk_hall.specs.HandOver.{FloorChangesHands, OnlyRead, NeverByReadsAlone}
+use Rattle.monk_hall.specs.Schedules.{Step, By, Deal, Part, Join, Compare, IsDone, IsStep, IsSchedule, after_step}
+use Rattle.monk_hall.specs.Schedules.{opening_table}
 
 -- a word that a step doesn't write is as it was
 pub words_stay : (k : Rules) (o : Object) (c : Setting) (s : HallState) (x : Step) (t : HallState) → IsStep k o c s x t

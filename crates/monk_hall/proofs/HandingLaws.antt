@@ -1,7 +1,7 @@
 -- A release goes home with the floor, and the right is handed on
 use Rattle.std.proofs.Common.{◌≡◌, ℕ, ◌+◌, ◌-◌, ◌≤◌, false}
 use Rattle.std.proofs.Common.{List, [], ◌∷◌, ◌++◌, length, Option, Some, None, refl, sym, ap, subst, ◌∙◌}
-use Rattle.std.{proofs.Common.arith, specs.List.last_or}
+use Rattle.std.{proofs.Common.arith, proofs.lemmas.Bool.Decides.nat_tests, specs.List.last_or}
 use Rattle.atomic_table.specs.Seated.{TableId}
 use Rattle.monk_kinds.specs.declared.mode.Rules.{Rules}
 use Rattle.monk_object.specs.Object.{Object}
@@ -13,11 +13,10 @@ use Rattle.monk_floor.specs.View.{FloorView, monitor_of}
 use Rattle.monk_world.specs.{Places.back_turn, Places.turn_of_next, Places.due_to, Places.place_of, Sound.left_within}
 use Rattle.monk_world.specs.{State.with_event, declared.home.Home.Home, declared.place.Place.TheVariants.Back}
 use Rattle.monk_hall.proofs.{Releasing.back_is, Releasing.said, EntrySteps.own_longer}
-use Rattle.monk_hall.specs.{Changes.record_after_floor_in, Changes.home_at, Granting.grant_of}
-use Rattle.monk_hall.specs.{Granting.granted_last, Layout.floor_of, Records.the, Tells.Me, Tokens.IsSeated}
-use Rattle.monk_hall.specs.{Tokens.IsResting, declared.deed.Deed.Deed, declared.seat_numbers.SeatNumbers.SeatNumbers}
+use Rattle.monk_hall.specs.{Changes.record_after_floor_in, Changes.home_at, Granting.grant_of, Granting.granted_last}
+use Rattle.monk_hall.specs.{Layout.floor_of, Records.the, Tells.Me, Tokens.IsSeated, Tokens.IsResting}
+use Rattle.monk_hall.specs.declared.{deed.Deed.Deed, seat_numbers.SeatNumbers.SeatNumbers}
 use Rattle.monk_hall.specs.Handing.{seat_called_by, HasRecordedRelease, HasGone}
-use Rattle.std.proofs.lemmas.Bool.Decides.{nat_tests}
 
 last_is : {A : Type 0} (o : Option A) (h : List A) (e : A) → last_or o (h ++ e ∷ []) ≡ Some e
 last_is o [] e = refl

@@ -1,8 +1,9 @@
 -- The longer of two histories begins with both, and idle seats' records may learn it
 use Rattle.std.proofs.Common.{◌≡◌, ◌≢◌, ℕ, ◌+◌, ◌<◌, ◌≤◌, ◌⊎◌, ◌==◌, Bool, true, false, cond, nat_le, List}
 use Rattle.std.proofs.Common.{[], ◌∷◌, ◌++◌, length, set, sym, refl, ap, ◌∙◌, subst, inl, inr, ⊎_elim, arith}
-use Rattle.std.proofs.{Common.append-nil, Common.length-append, Math.Option.some-injective}
-use Rattle.std.proofs.lemmas.{Bool.Decides.eqb_tells, List.nil_from_length, List.Elements.filter-append}
+use Rattle.std.proofs.{Math.Option.some-injective, lemmas.Bool.Decides.eqb_tells, lemmas.Bool.Decides.nat_tests}
+use Rattle.std.proofs.{lemmas.List.nil_from_length, lemmas.List.Elements.filter-append}
+use Rattle.std.proofs.Common.{append-nil, length-append}
 use mathlib.Core.Option as maybe
 use mathlib.Core.Path.{Path}
 use lib.ListN.{get_elem?}
@@ -13,14 +14,12 @@ use Rattle.monk_history.specs.Meaning.{Counts.events_of, Events.seat_of, Turn.tu
 use Rattle.monk_history.specs.declared.event.Event.{Event}
 use Rattle.monk_world.proofs.PublicLaws.{at_update, update_here, update_else, all_back}
 use Rattle.monk_world.specs.{Kept.IsKept, Update.update, State.State, StepTable.out_event}
-use Rattle.monk_world.specs.Places.{stage, outside_stage, active_stage, back_stage}
 use Rattle.monk_world.specs.declared.{place.Place.Place, place.Place.TheVariants.Active, source.Source.Source}
+use Rattle.monk_world.specs.Places.{stage, outside_stage, active_stage, back_stage}
 use Rattle.monk_hall.proofs.{Seats.long, Stored.field_stays}
-use Rattle.monk_hall.specs.{Changes.longer, Floors.StartsWith, Records.View, Records.In, Tells.AreOne}
-use Rattle.monk_hall.specs.Rule.{AreShown, CountsCalls, Homes, IsKeptHall}
-use Rattle.monk_hall.specs.Layout.{floor_of, shown_state, shown_world}
-use Rattle.monk_hall.specs.declared.{record.SeatRecord.SeatRecord, setting.Setting.Setting}
-use Rattle.std.proofs.lemmas.Bool.Decides.{nat_tests}
+use Rattle.monk_hall.specs.{Changes.longer, Floors.StartsWith, Records.View, Records.In, Tells.AreOne, Rule.AreShown}
+use Rattle.monk_hall.specs.{Rule.CountsCalls, Rule.Homes, Rule.IsKeptHall, Layout.floor_of, Layout.shown_state}
+use Rattle.monk_hall.specs.{Layout.shown_world, declared.record.SeatRecord.SeatRecord, declared.setting.Setting.Setting}
 
 hd : Event → List Event → Event
 hd d [] = d

@@ -1,10 +1,10 @@
 -- Two idle seats' views are joined, and both records learn the longer history
 use Rattle.std.proofs.Common.{◌≡◌, ◌≢◌, ℕ, ◌+◌, ◌<◌, ◌⊎◌, Bool, true, false, cond, nat_le, List, arith}
 use Rattle.std.proofs.Common.{[], ◌∷◌, ◌++◌, length, set, sym, refl, ap, ◌∙◌, subst, inl, inr, ⊎_elim}
-use Rattle.std.proofs.{Math.Option.some-injective, lemmas.Bool.Decides.eqb_tells}
+use Rattle.std.proofs.{Math.Option.some-injective, lemmas.Bool.Decides.eqb_tells, lemmas.Bool.Decides.nat_tests}
 use mathlib.Core.Option as maybe
 use lib.ListN.{get_elem?}
-use Rattle.atomic_table.{proofs.Lists.at_set, proofs.Lists.set_here, proofs.Lists.set_else}
+use Rattle.atomic_table.proofs.Lists.{at_set, set_here, set_else}
 use Rattle.monk_kinds.specs.declared.mode.Rules.{Rules}
 use Rattle.monk_object.specs.Object.{Object}
 use Rattle.monk_history.proofs.PublicLaws.Meaning.{legal_front}
@@ -16,11 +16,10 @@ use Rattle.monk_hall.proofs.IdleLearns.{parts, events_between, longer_both, IsLo
 use Rattle.monk_hall.proofs.IdleLearns.{in_b, still_b, shown_two}
 use Rattle.monk_hall.proofs.Dealing.{shown_moved, IsStill}
 use Rattle.monk_hall.proofs.Seats.{is_at, is_desk, is_near, is_setting, long, only}
-use Rattle.monk_hall.specs.{Changes.longer, Changes.view_after_join, Floors.StartsWith, Laws.HallState, Layout.floor_of}
-use Rattle.monk_hall.specs.{Records.View, Records.In, Records.IsOne, Records.the}
-use Rattle.monk_hall.specs.{Rule.AreShown, Rule.IsHall, Tells.AreOne, Tells.SeesTruly}
+use Rattle.monk_hall.specs.{Floors.StartsWith, Laws.HallState, Layout.floor_of, Records.View, Records.In, Records.IsOne}
+use Rattle.monk_hall.specs.{Records.the, Rule.AreShown, Rule.IsHall, Tells.AreOne, Tells.SeesTruly}
 use Rattle.monk_hall.specs.declared.{deed.Deed.TheVariants.Meet, record.SeatRecord.SeatRecord, setting.Setting.Setting}
-use Rattle.std.proofs.lemmas.Bool.Decides.{nat_tests}
+use Rattle.monk_hall.specs.Changes.{longer, view_after_join}
 
 -- two idle records are in one view
 module _ (k : Rules) (o : Object) (c : Setting) (s : HallState) (h : IsHall k o c s) (id : ℕ) (a b : SeatRecord)

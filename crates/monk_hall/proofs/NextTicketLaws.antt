@@ -1,12 +1,11 @@
 -- Who enters next after a release that chose entry
 use Rattle.std.proofs.Common.{◌≡◌, ◌≢◌, ℕ, List, [], ◌∷◌, ◌++◌, append_assoc, Some, None, inl, inr, sym, ap}
 use Rattle.std.proofs.Common.{◌∙◌, arith}
-use Rattle.std.proofs.lemmas.Option.{none-some, same_Some}
+use Rattle.std.proofs.lemmas.{Option.none-some, Option.same_Some, Bool.Decides.nat_tests}
 use Rattle.atomic_table.specs.Seated.{TableId}
 use Rattle.monk_history.specs.{Meaning.Counts.enters_of, declared.event.Event.Event}
-use Rattle.monk_world.proofs.PublicLaws.{held}
-use Rattle.monk_world.specs.Places.{stage, ticket, passing_stage}
-use Rattle.monk_world.specs.declared.place.Place.{Place, TheVariants.Ticket}
+use Rattle.monk_world.{proofs.PublicLaws.held, specs.Places.stage, specs.Places.ticket, specs.Places.passing_stage}
+use Rattle.monk_world.{specs.declared.place.Place.Place, specs.declared.place.Place.TheVariants.Ticket}
 use Rattle.monk_hall.proofs.{HandingLaws.grants_by, Standing.ticket_at}
 use Rattle.monk_hall.proofs.RecordLaws.{is, place, with, next_ticket, recorded}
 use Rattle.monk_hall.specs.{Calls.peeks_at, Changes.source_from, Changes.since, Granting.Grant, Granting.granted_last}
@@ -14,7 +13,6 @@ use Rattle.monk_hall.specs.{Handing.HandsOn, Layout.ticket_word, Layout.waiting_
 use Rattle.monk_hall.specs.NextTicket.{NextTicketWaits, NoTicketWaits, GrantedEntersNext}
 use Rattle.monk_hall.specs.declared.{record.SeatRecord.SeatRecord, setting.Setting.Setting}
 use Rattle.monk_hall.specs.declared.deed.Deed.{Deed, TheVariants.FloorIn, TheVariants.Drop, TheVariants.GrantTicket}
-use Rattle.std.proofs.lemmas.Bool.Decides.{nat_tests}
 
 -- where a seat of this setting that waits with this ticket finds its grant
 word_is : (c : Setting) (r : SeatRecord) (t : ℕ) → r.setting ≡ c → r.place ≡ Ticket t

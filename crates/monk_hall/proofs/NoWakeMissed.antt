@@ -1,26 +1,25 @@
 -- While a thread waits, what it has seen in its word isn't its grant; and who grants the word owes a wake
 use Rattle.std.proofs.Common.{◌≡◌, ◌≢◌, ℕ, ◌+◌, ◌%◌, ◌<◌, ◌≤◌, ◌⊎◌, Bool, true, false, List, [], ◌∷◌, ◌++◌}
 use Rattle.std.proofs.Common.{sym, refl, ap, subst, ◌∙◌, inl, inr, ⊎_elim, cond, arith, eq-eqb, mod-lt}
-use Rattle.std.proofs.Math.Nat.{mod-eq_of_lt}
-use Rattle.std.proofs.lemmas.{Bool.Decides.eqb_tells}
+use Rattle.std.proofs.{Math.Nat.mod-eq_of_lt, lemmas.Bool.Decides.eqb_tells, lemmas.Bool.Decides.nat_tests}
 use Rattle.std.specs.Prelude.{Option, Some, slice_index}
 use mathlib.Core.Option.{some}
 use lib.ListN.{get_elem?}
 use Rattle.monk_kinds.specs.{Kind.IsKind, declared.mode.Rules.Rules}
 use Rattle.monk_object.specs.Object.{Object}
 use Rattle.monk_world.proofs.PublicLaws.{few_drawn}
-use Rattle.monk_world.specs.{Places.ticket}
 use Rattle.monk_world.specs.Steps.{place_after_ticket_look, place_after_seat_look, count_after_seat_look}
 use Rattle.monk_world.specs.declared.place.Place.{Place}
 use Rattle.monk_world.specs.declared.place.Place.TheVariants.{Idle, Ticket, Due, Active, Back, Passing, Inner}
+use Rattle.monk_world.specs.Places.{ticket}
 use Rattle.monk_hall.proofs.Standing as standing
-use Rattle.monk_hall.proofs.{GrantStands.Stands, GrantsTaken.moved_stays, ScheduleLaws.IsLed}
-use Rattle.monk_hall.proofs.{ScheduleMoves.step_led, ScheduleMoves.led_opening, WordWaits.one_waits_at_a_word}
+use Rattle.monk_hall.proofs.{GrantStands.Stands, GrantsTaken.moved_stays, ScheduleLaws.IsLed, ScheduleMoves.step_led}
+use Rattle.monk_hall.proofs.{ScheduleMoves.led_opening, WordWaits.one_waits_at_a_word}
 use Rattle.monk_hall.proofs.HandedOver.{words_stay, others, own, in_view, at_j, no_write}
 use Rattle.monk_hall.proofs.RecordLaws.{is, cases_le}
 use Rattle.monk_hall.specs.{Changes.record_after_ticket_look, Changes.record_after_seat_look, GrantsInTurn.granted_word}
 use Rattle.monk_hall.specs.{HandOver.written_word, Laws.HallState, Laws.IsRecord, NextTicket.IsLooking, Rule.IsHall}
-use Rattle.monk_hall.specs.Schedules.{Step, By, Deal, Part, Join, Compare, IsDone, IsStep}
+use Rattle.monk_hall.specs.Layout.{seat_word, waiting_word, waiting_word_at, shown_state}
 use Rattle.monk_hall.specs.declared.{record.SeatRecord.SeatRecord, setting.Setting.Setting}
 use Rattle.monk_hall.specs.declared.deed.Deed.{Deed}
 use Rattle.monk_hall.specs.declared.deed.Deed.TheVariants.{Arrive, LookForTicket, LookForCall, Peek, FloorOut, FloorIn}
@@ -29,8 +28,7 @@ use Rattle.monk_hall.specs.Wakes.{Wait, Awake, Watched, Polled, Marked, Asleep, 
 use Rattle.monk_hall.specs.Wakes.{Sleep, Rise, Clear, Wake, Skip, risen, with_mark, takes_none, MayTake, wait_after}
 use Rattle.monk_hall.specs.Wakes.{with_wait, waits_after, owed, IsIn, IsWithout, WakesOne, IsAct, IsRun}
 use Rattle.monk_hall.specs.Wakes.{opening_threads, NoWakeIsMissed}
-use Rattle.monk_hall.specs.Layout.{seat_word, waiting_word, waiting_word_at, shown_state}
-use Rattle.std.proofs.lemmas.Bool.Decides.{nat_tests}
+use Rattle.monk_hall.specs.Schedules.{Step, By, Deal, Part, Join, Compare, IsDone, IsStep}
 
 -- what a seat that waits at this place, and has counted so many calls, finds in its word if its grant is there
 abbrev wanted_at : Place → ℕ → ℕ

@@ -1,17 +1,15 @@
 -- What a seat holds, and how it came, at the place where each step leaves it
 use Rattle.std.proofs.Common.{◌≡◌, ℕ, ◌+◌, ◌-◌, ◌≤◌, Bool, false, List, [], ◌∷◌}
 use Rattle.std.proofs.Common.{sym, ◌∙◌, arith}
-use Rattle.std.proofs.lemmas.Option.{none-some}
+use Rattle.std.proofs.lemmas.{Option.none-some, Bool.Decides.nat_tests}
 use Rattle.std.specs.Prelude.{Option, Some, None}
 use Rattle.monk_history.specs.Meaning.{Counts.is_enter, Release.with_next}
 use Rattle.monk_history.specs.declared.event.{Event.Event, Next.Next, Turn.Turn}
 use Rattle.monk_world.specs.{Places.place_of, StepTable.out_event}
 use Rattle.monk_world.specs.Steps.{place_after_arrive, place_after_ticket_look, place_after_seat_look, place_after_drop}
-use Rattle.monk_world.specs.declared.source.Source.{Source}
-use Rattle.monk_world.specs.declared.home.Home.{Home}
+use Rattle.monk_world.specs.declared.{source.Source.Source, home.Home.Home}
 use Rattle.monk_hall.proofs.ScheduleLaws.{held, came_by, ticket_by}
 use Rattle.monk_hall.specs.{Schedules.entered, Tells.IsReleaseTo}
-use Rattle.std.proofs.lemmas.Bool.Decides.{nat_tests}
 
 pub held_arrived : (t n : ℕ) → held (place_after_arrive t n) ≡ Some t
 held_arrived t n = grind (arith, nat_tests)

@@ -1,7 +1,7 @@
 -- Each call's step is one of a schedule. So at every moment some schedule leads to the table
 use Rattle.std.proofs.Common.{◌≡◌, ℕ, ◌+◌, ◌%◌, ◌≤◌, List, [], ◌∷◌, ◌++◌, length, set, sym, refl}
 use Rattle.std.proofs.Common.{ap, ◌∙◌, subst, inl, inr, arith, append_assoc, length-append}
-use Rattle.std.proofs.lemmas.List.{set-get_or}
+use Rattle.std.proofs.lemmas.{List.set-get_or, Bool.Decides.nat_tests}
 use Rattle.std.specs.Prelude.{Option, Some, slice_index}
 use mathlib.Core.Option as maybe
 use lib.ListN.{get_elem?}
@@ -13,32 +13,31 @@ use Rattle.monk_history.specs.declared.event.Next.TheVariants as next
 use Rattle.monk_history.proofs.PublicLaws.Meaning.{legal_front, legal_last}
 use Rattle.monk_history.specs.Meaning.{Counts.events_of, Counts.granted_of, Legal.IsLegal, Release.with_next}
 use Rattle.monk_history.specs.declared.event.Event.{Event}
-use Rattle.monk_floor.specs.{View.FloorView, View.monitor_of}
+use Rattle.monk_floor.specs.View.{FloorView, monitor_of}
+use Rattle.monk_world.specs.declared.{home.Home.Home, place.Place.TheVariants.Idle, place.Place.TheVariants.Back}
 use Rattle.monk_world.specs.Places.{stage, ticket, back_turn, due_to, ticketed_stage, due_stage, active_stage}
 use Rattle.monk_world.specs.Places.{passing_stage, inside_stage}
 use Rattle.monk_world.specs.State.{with_event}
-use Rattle.monk_world.specs.declared.{home.Home.Home, place.Place.TheVariants.Idle, place.Place.TheVariants.Back}
 use Rattle.monk_hall.proofs.FloorOut as floor_out
 use Rattle.monk_hall.proofs.MeetLaws as meeting
 use Rattle.monk_hall.proofs.Stepping as stepping
-use Rattle.monk_hall.proofs.{RecordLaws.next_ticket, RuleLaws.one_is_active, ScheduleMoves.led_by}
-use Rattle.monk_hall.proofs.{ScheduleMoves.led_opening, WordSteps.knew_still, WordSteps.some_unpassed}
-use Rattle.monk_hall.proofs.Private.{own_event, own_more}
+use Rattle.monk_hall.proofs.{RecordLaws.next_ticket, RuleLaws.one_is_active, Private.own_event, Private.own_more}
+use Rattle.monk_hall.proofs.ScheduleMoves.{led_by, led_opening}
+use Rattle.monk_hall.proofs.WordSteps.{knew_still, some_unpassed}
 use Rattle.monk_hall.specs.{Floors.ArePrivate, Laws.HallState, Laws.IsRecord, Rule.IsHall, Rule.Homes}
-use Rattle.monk_hall.specs.Schedules.{Step, By, Deal, Part, Join, Compare, IsStep, IsSchedule, IsReached, after_step}
-use Rattle.monk_hall.specs.Schedules.{ArePlayed, IsReleasedBy, came_in, opening_table}
+use Rattle.monk_hall.specs.Layout.{floor_of, place_word, seat_word}
+use Rattle.monk_hall.specs.Tells.{Me, TellsArrive, TellsTicketLook, TellsSeatLook, TellsPeek, TellsFloorOut}
+use Rattle.monk_hall.specs.Tells.{TellsFloorIn, held_history, TellsDrop, TellsTicketGrant, TellsCall, TellsCompare}
+use Rattle.monk_hall.specs.Tells.{Returns}
 use Rattle.monk_hall.specs.declared.{record.SeatRecord.SeatRecord, setting.Setting.Setting}
 use Rattle.monk_hall.specs.declared.deed.Deed.TheVariants.{Arrive, LookForTicket, LookForCall, Peek, FloorOut, FloorIn}
 use Rattle.monk_hall.specs.declared.deed.Deed.TheVariants.{Drop, GrantTicket, CallSeat, Meet}
 use Rattle.monk_hall.specs.Changes.{record_after_arrive, record_after_ticket_look, record_after_seat_look}
 use Rattle.monk_hall.specs.Changes.{record_after_peek, record_after_floor_out, record_after_floor_in, record_after_drop}
 use Rattle.monk_hall.specs.Changes.{record_after_grant, view_after_join, view_after_compare}
-use Rattle.monk_hall.specs.Tells.{Me, TellsArrive, TellsTicketLook, TellsSeatLook, TellsPeek, TellsFloorOut}
-use Rattle.monk_hall.specs.Tells.{TellsFloorIn, held_history, TellsDrop, TellsTicketGrant, TellsCall, TellsCompare}
-use Rattle.monk_hall.specs.Tells.{Returns}
-use Rattle.monk_hall.specs.Layout.{floor_of, place_word, seat_word}
 use Rattle.monk_hall.specs.Records.{View, IsOne, the, head, tail}
-use Rattle.std.proofs.lemmas.Bool.Decides.{nat_tests}
+use Rattle.monk_hall.specs.Schedules.{Step, By, Deal, Part, Join, Compare, IsStep, IsSchedule, IsReached, after_step}
+use Rattle.monk_hall.specs.Schedules.{ArePlayed, IsReleasedBy, came_in, opening_table}
 
 -- the view has two records
 abbrev pub IsTwo : View → Type 0

@@ -1,16 +1,14 @@
 -- What the rule says about the seat of one record
 use Rattle.std.proofs.Common.{◌≡◌, ◌≢◌, ℕ, ◌+◌, ◌<◌, ◌≤◌, ◌⊎◌, ap, inl, inr, arith}
-use Rattle.std.specs.Prelude.{slice_index}
+use Rattle.std.{specs.Prelude.slice_index, proofs.lemmas.Bool.Decides.nat_tests}
 use Rattle.monk_kinds.specs.declared.mode.Rules.{Rules}
 use Rattle.monk_object.specs.Object.{Object}
 use Rattle.monk_history.specs.{Meaning.Counts.enters_of, declared.event.Next.Next}
 use Rattle.monk_world.proofs.PublicLaws.{held}
-use Rattle.monk_world.specs.{Right.With}
+use Rattle.monk_world.specs.{Right.With, declared.home.Home.Home, declared.place.Place.TheVariants.Back}
 use Rattle.monk_world.specs.Places.{stage, outside_stage, due_stage, back_stage, passing_stage}
-use Rattle.monk_world.specs.declared.{home.Home.Home, place.Place.TheVariants.Back}
-use Rattle.monk_hall.specs.{Laws.HallState, Laws.IsRecord, Layout.tickets, Layout.unpassed}
-use Rattle.monk_hall.specs.{Rule.IsHall, declared.record.SeatRecord.SeatRecord, declared.setting.Setting.Setting}
-use Rattle.std.proofs.lemmas.Bool.Decides.{nat_tests}
+use Rattle.monk_hall.specs.{Laws.HallState, Laws.IsRecord, Layout.tickets, Layout.unpassed, Rule.IsHall}
+use Rattle.monk_hall.specs.declared.{record.SeatRecord.SeatRecord, setting.Setting.Setting}
 
 pub cases_le : (a b : ℕ) → (a ≤ b) ⊎ (b < a)
 cases_le a b = grind (arith, nat_tests)

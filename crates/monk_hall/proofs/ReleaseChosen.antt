@@ -1,27 +1,24 @@
 -- What a release chooses, and what it leaves in the records if the turn goes from the active seat
 use Rattle.std.proofs.Common.{◌≡◌, ℕ, ◌+◌, Bool, true, false, cond, List, [], ◌∷◌, ◌++◌, arith}
 use Rattle.std.proofs.Common.{append_assoc, Some, refl, sym, ap, subst, ◌∙◌}
+use Rattle.std.proofs.lemmas.Bool.Decides.{nat_tests}
 use Rattle.atomic_table.specs.Seated.{TableId}
-use Rattle.monk_kinds.specs.declared.mode.Pick.{Pick}
-use Rattle.monk_kinds.specs.declared.mode.Rules.{Rules}
+use Rattle.monk_kinds.specs.declared.mode.{Pick.Pick, Rules.Rules}
 use Rattle.monk_object.specs.Object.{Object}
 use Rattle.monk_history.specs.declared.event.Next.TheVariants as next
-use Rattle.monk_history.specs.Meaning.{Events.seat_of, Events.is_stay}
 use Rattle.monk_history.specs.Meaning.{Release.with_next, Release.choice_of, Wish.choice_by, Turn.turn_by}
-use Rattle.monk_history.specs.Meaning.Counts.{is_enter}
-use Rattle.monk_history.specs.Meaning.Choice.{Queues, must_stay, queues_at}
-use Rattle.monk_history.specs.declared.event.{Next.Next, Turn.TheVariants.Owned}
-use Rattle.monk_history.specs.declared.event.Event.{Event}
+use Rattle.monk_history.specs.Meaning.{Counts.is_enter, Choice.Queues, Choice.must_stay, Choice.queues_at}
+use Rattle.monk_history.specs.Meaning.Events.{seat_of, is_stay}
+use Rattle.monk_history.specs.declared.event.{Next.Next, Turn.TheVariants.Owned, Event.Event}
 use Rattle.monk_floor.specs.View.{FloorView, stands_of}
 use Rattle.monk_world.specs.declared.home.Home.{Home}
 use Rattle.monk_hall.proofs.{Private.own_event, Releasing.said}
-use Rattle.monk_hall.specs.{Layout.floor_of, Recorded.IsRelease, Records.the, Tells.Me}
-use Rattle.monk_hall.specs.{Tells.IsReleaseTo, Tells.SeesTruly, Tokens.Token, Tokens.Holder, Tokens.IsHolding}
-use Rattle.monk_hall.specs.{Tokens.holder, declared.deed.Deed.Deed}
-use Rattle.monk_hall.specs.{declared.record.SeatRecord.SeatRecord, declared.seat_numbers.SeatNumbers.SeatNumbers}
+use Rattle.monk_hall.specs.{Layout.floor_of, Recorded.IsRelease, Records.the}
+use Rattle.monk_hall.specs.Tells.{Me, IsReleaseTo, SeesTruly}
+use Rattle.monk_hall.specs.declared.{deed.Deed.Deed, record.SeatRecord.SeatRecord, seat_numbers.SeatNumbers.SeatNumbers}
 use Rattle.monk_hall.specs.Calls.{HasReleased, HasPeeked, Remembers, is_entry_known, peeks_at}
 use Rattle.monk_hall.specs.Handing.{HasRecordedRelease, HandsOn, HasGone, seat_called_by}
-use Rattle.std.proofs.lemmas.Bool.Decides.{nat_tests}
+use Rattle.monk_hall.specs.Tokens.{Token, Holder, IsHolding, holder}
 
 -- the wish rules ask whether somebody is known to wait for entry only if the wish is for entry
 knows_reads : (k : Rules) (q : Queues) (s : ℕ) (known : Bool) (wish : Pick)

@@ -1,31 +1,27 @@
 -- How a release changes an active seat
 use Rattle.std.proofs.Common.{◌≡◌, ℕ, ◌+◌, ◌<◌, ◌≤◌, Bool, true, false}
 use Rattle.std.proofs.Common.{length, append-nil, Option, Some, refl, sym, ap, subst, ◌∙◌, arith}
+use Rattle.std.proofs.lemmas.Bool.Decides.{nat_tests}
 use Rattle.atomic_table.specs.Seated.{TableId}
 use Rattle.monk_kinds.specs.declared.mode.{Rules.Rules, Pick.Pick}
 use Rattle.monk_object.specs.Object.{Object}
 use Rattle.monk_history.specs.declared.event.Next.TheVariants as next
 use Rattle.monk_history.proofs.PublicLaws.Meaning.{legal-push}
-use Rattle.monk_history.specs.Meaning.{Counts.events_of, Legal.IsLegal}
-use Rattle.monk_history.specs.Meaning.{Release.with_next, Release.choice_of, Turn.turn, Turn.turn_by}
-use Rattle.monk_history.specs.Meaning.Events.{is_stay}
-use Rattle.monk_history.specs.declared.event.{Next.Next, Turn.TheVariants.Owned}
-use Rattle.monk_history.specs.declared.event.Event.{Event}
-use Rattle.monk_history.specs.declared.event.Event.TheVariants.{Leave}
+use Rattle.monk_history.specs.Meaning.{Counts.events_of, Legal.IsLegal, Turn.turn, Turn.turn_by, Events.is_stay}
+use Rattle.monk_history.specs.Meaning.Release.{with_next, choice_of}
+use Rattle.monk_history.specs.declared.event.{Next.Next, Turn.TheVariants.Owned, Event.Event, Event.TheVariants.Leave}
 use Rattle.monk_floor.specs.{Grown.IsGrown, View.FloorView, View.monitor_of, View.stands_of}
 use Rattle.monk_world.specs.declared.home.Home.TheVariants as home
 use Rattle.monk_world.specs.{State.with_event, declared.home.Home.Home}
 use Rattle.monk_hall.proofs.{Private.own_event, Releasing.said, TokenLaws.grown_holds}
 use Rattle.monk_hall.proofs.ReleaseChosen.{stay_is, stay_keeps, never_enters, chosen_as_known, released}
 use Rattle.monk_hall.proofs.ReleaseChosen.{remembers_twice, of_setting, released_peeked}
-use Rattle.monk_hall.specs.{AfterCalls.MatchAfter, Handing.HasGone}
-use Rattle.monk_hall.specs.{Recorded.IsRelease, Records.the, Tells.Me, Tells.SeesTruly}
-use Rattle.monk_hall.specs.Calls.{HasStayed, HasPeeked, is_entry_known}
-use Rattle.monk_hall.specs.Tokens.{Token, Holder, House, IsHolding, holder}
+use Rattle.monk_hall.specs.{AfterCalls.MatchAfter, Handing.HasGone, Recorded.IsRelease, Records.the, Tells.Me}
+use Rattle.monk_hall.specs.{Tells.SeesTruly, Tokens.Token, Tokens.Holder, Tokens.House, Tokens.IsHolding, Tokens.holder}
 use Rattle.monk_hall.specs.Granting.{Grant, granted_last, HasGranted, HasStayedAlone}
-use Rattle.monk_hall.specs.declared.seat_numbers.SeatNumbers.{SeatNumbers}
+use Rattle.monk_hall.specs.Calls.{HasStayed, HasPeeked, is_entry_known}
 use Rattle.monk_hall.specs.declared.after.After.{After, TheVariants.Active, TheVariants.Parked}
-use Rattle.std.proofs.lemmas.Bool.Decides.{nat_tests}
+use Rattle.monk_hall.specs.declared.seat_numbers.SeatNumbers.{SeatNumbers}
 
 -- what the active seat may do
 module _ {k : Rules} {o : Object} {z : TableId} {me : Me} {numbers : SeatNumbers} {f : FloorView} where

@@ -1,11 +1,11 @@
 -- A release as the step of a world
 use Rattle.std.proofs.Common.{◌≡◌, ℕ, ◌+◌, ◌<◌, cond, true, false, sym, refl, subst, arith}
-use Rattle.std.specs.Prelude.{Some}
+use Rattle.std.{specs.Prelude.Some, proofs.lemmas.Bool.Decides.nat_tests}
 use Rattle.monk_kinds.specs.{Kind.IsKind, declared.mode.Pick.Pick, declared.mode.Rules.Rules}
 use Rattle.monk_object.specs.Object.{Object}
 use Rattle.monk_history.specs.declared.event.Next.TheVariants as next
-use Rattle.monk_history.specs.Meaning.{Counts.left_of, Release.MayCall, Release.with_next}
-use Rattle.monk_history.specs.Meaning.Events.{seat_of, next_of, is_stay}
+use Rattle.monk_history.specs.Meaning.{Counts.left_of, Events.seat_of, Events.next_of, Events.is_stay}
+use Rattle.monk_history.specs.Meaning.Release.{MayCall, with_next}
 use Rattle.monk_history.specs.declared.event.Next.{Next}
 use Rattle.monk_history.specs.declared.event.Event.{Event}
 use Rattle.monk_history.specs.declared.event.Event.TheVariants.{Enter, Act, Leave, Wait, Signal, SignalLeave, Until}
@@ -18,10 +18,9 @@ use Rattle.monk_world.proofs.PublicLaws.{IsReady}
 use Rattle.monk_world.specs.{Kept.IsKept, Sound.left_within, State.State, State.with_event, Steps.after_floor_in}
 use Rattle.monk_world.specs.StepTable.{IsDone, IsStep, release_next, call_of, left_for, may_be_told}
 use Rattle.monk_world.specs.declared.{command.Command.Command, home.Home.Home, source.Source.Source}
-use Rattle.monk_world.specs.declared.place.Place.{TheVariants.Active, TheVariants.Back}
+use Rattle.monk_world.specs.declared.place.Place.TheVariants.{Active, Back}
 use Rattle.monk_hall.proofs.Frame.{step_kept, step_is}
 use Rattle.monk_hall.specs.{Changes.back_after, Laws.wish_of, Tells.IsReleaseTo}
-use Rattle.std.proofs.lemmas.Bool.Decides.{nat_tests}
 
 -- where the seat is after its release
 pub back_is : (i : ℕ) (to : Home) (call : Event) (x : Next) → IsReleaseTo i to call

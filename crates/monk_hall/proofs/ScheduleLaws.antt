@@ -1,7 +1,7 @@
 -- Each step of the table keeps what holds for a schedule
 use Rattle.std.proofs.Common.{◌≡◌, ◌≢◌, ℕ, ◌⊎◌, List, [], ◌∷◌, ◌++◌, length, arith}
 use Rattle.std.proofs.Common.{sym, refl, ap, subst, ◌∙◌, inl, inr, ⊎_elim, eq-eqb, ne_eqb, append-nil}
-use Rattle.std.proofs.lemmas.{Bool.Decides.eqb_tells, Option.none-some}
+use Rattle.std.proofs.lemmas.{Bool.Decides.eqb_tells, Bool.Decides.nat_tests, Option.none-some}
 use Rattle.std.specs.Prelude.{Option, Some, None, slice_index}
 use mathlib.Core.Option.{some}
 use lib.ListN.{get_elem?}
@@ -9,19 +9,17 @@ use Rattle.atomic_table.proofs.Lists.{at_set, at_longer}
 use Rattle.monk_kinds.specs.declared.mode.Rules.{Rules}
 use Rattle.monk_object.specs.Object.{Object}
 use Rattle.monk_history.specs.{Meaning.Counts.events_of, Meaning.Counts.enters_of, declared.event.Event.Event}
-use Rattle.monk_world.specs.Places.{HoldsRight}
+use Rattle.monk_world.specs.declared.source.Source.{Source, TheVariants.Free, TheVariants.Granted, TheVariants.Called}
 use Rattle.monk_world.specs.declared.place.Place.{Place}
 use Rattle.monk_world.specs.declared.place.Place.TheVariants.{Idle, Ticket, Due, Active, Back, Passing, Inner}
-use Rattle.monk_world.specs.declared.source.Source.{Source, TheVariants.Free, TheVariants.Granted, TheVariants.Called}
+use Rattle.monk_world.specs.Places.{HoldsRight}
 use Rattle.monk_hall.proofs.{IdleLearns.events_of-append, Seats.only}
 use Rattle.monk_hall.proofs.ScheduleLists.{brought_push, deeds_push, home_append, knows_append, arrivals_push, AreOf}
 use Rattle.monk_hall.proofs.ScheduleLists.{own_all, own_none}
-use Rattle.monk_hall.specs.{Layout.tickets, Records.In, Rule.IsHall, Rule.Homes}
+use Rattle.monk_hall.specs.{Layout.tickets, Records.In, Rule.IsHall, Rule.Homes, Deeds.brings, Deeds.brought_home}
+use Rattle.monk_hall.specs.{Deeds.knows, Deeds.knows_after, Laws.HallState, Laws.IsRecord, Laws.first_word}
 use Rattle.monk_hall.specs.Schedules.{Step, By, after_step, brought, deeds_by, deeds_in, drew, arrivals, entered}
-use Rattle.monk_hall.specs.Deeds.{brings, brought_home, knows, knows_after}
-use Rattle.monk_hall.specs.Laws.{HallState, IsRecord, first_word}
 use Rattle.monk_hall.specs.declared.{deed.Deed.Deed, record.SeatRecord.SeatRecord, setting.Setting.Setting}
-use Rattle.std.proofs.lemmas.Bool.Decides.{nat_tests}
 
 -- the ticket by which a seat came in, if it came by one
 abbrev pub ticket_by : Source → Option ℕ

@@ -1,7 +1,7 @@
 -- The moves of seats, each after a schedule; and every schedule
 use Rattle.std.proofs.Common.{◌≡◌, ℕ, zero, suc, ◌+◌, ◌/◌, Bool, false, true, List, [], ◌∷◌, ◌++◌, length, replicate, set, sym, refl, ap, subst, ◌∙◌}
 use Rattle.std.proofs.Common.{◌≢◌, ◌==◌, cond, eq-eqb, ne_eqb, inl, inr, ⊎_elim, append-nil, append_assoc, arith}
-use Rattle.std.proofs.lemmas.{List.length-replicate, Option.none-some}
+use Rattle.std.proofs.lemmas.{List.length-replicate, Option.none-some, Bool.Decides.nat_tests}
 use Rattle.std.specs.Prelude.{None, slice_index}
 use mathlib.Core.Option.{some}
 use lib.ListN.{get_elem?}
@@ -14,16 +14,13 @@ use Rattle.monk_world.specs.Places.{ticket}
 use Rattle.monk_hall.proofs.ScheduleSteps as steps_of
 use Rattle.monk_hall.proofs.{HomeLaws.home_history, MeetLaws.compares_at, MeetLaws.meets_at, MeetLaws.parts_at}
 use Rattle.monk_hall.proofs.{RecordLaws.desk, ScheduleReturns.returns, Seats.only, Standing.passing_at}
-use Rattle.monk_hall.proofs.ScheduleLaws.{IsLed, led_after, its_record, held, came_by}
 use Rattle.monk_hall.proofs.RuleLaws.{one_is_active, right_in_one_place, shows_well_led}
+use Rattle.monk_hall.proofs.Dealing.{IsStill, deals_at, opens, opens_empty, zero_words, some_seat}
 use Rattle.monk_hall.proofs.ScheduleLists.{brought_push, brought_append, deeds_push, home_append, knows_append}
 use Rattle.monk_hall.proofs.ScheduleLists.{arrivals_push}
-use Rattle.monk_hall.proofs.Dealing.{IsStill, deals_at, opens, opens_empty, zero_words, some_seat}
-use Rattle.monk_hall.specs.{Deeds.brought_home, Deeds.knows_from, Laws.HallState, Laws.IsRecord}
-use Rattle.monk_hall.specs.{Laws.IsHomeHistory, Layout.word_count, Layout.ticket_word, Layout.floor_of}
-use Rattle.monk_hall.specs.Schedules.{Step, By, Deal, Part, Join, Compare, IsDone, IsStep, IsSchedule, after_step}
-use Rattle.monk_hall.specs.Schedules.{opening_table, brought, brought_in, deeds_in, arrivals, drew_in}
-use Rattle.monk_hall.specs.Schedules.{entered, IsLedStep, IsOneHistory, EveryScheduleIsOneHistory}
+use Rattle.monk_hall.proofs.ScheduleLaws.{IsLed, led_after, its_record, held, came_by}
+use Rattle.monk_hall.specs.{Deeds.brought_home, Deeds.knows_from, Laws.HallState, Laws.IsRecord, Laws.IsHomeHistory}
+use Rattle.monk_hall.specs.Layout.{word_count, ticket_word, floor_of}
 use Rattle.monk_hall.specs.declared.{record.SeatRecord.SeatRecord, setting.Setting.Setting}
 use Rattle.monk_hall.specs.declared.deed.Deed.{Deed}
 use Rattle.monk_hall.specs.declared.deed.Deed.TheVariants.{Arrive, LookForTicket, LookForCall, Peek, FloorOut, FloorIn}
@@ -31,7 +28,9 @@ use Rattle.monk_hall.specs.declared.deed.Deed.TheVariants.{Drop, GrantTicket, Ca
 use Rattle.monk_hall.specs.Changes.{record_after_ticket_look, record_after_seat_look, record_after_grant}
 use Rattle.monk_hall.specs.Changes.{view_after_join, view_after_compare}
 use Rattle.monk_hall.specs.Records.{View, In, opening_record, opening_records, first_view}
-use Rattle.std.proofs.lemmas.Bool.Decides.{nat_tests}
+use Rattle.monk_hall.specs.Schedules.{Step, By, Deal, Part, Join, Compare, IsDone, IsStep, IsSchedule, after_step}
+use Rattle.monk_hall.specs.Schedules.{opening_table, brought, brought_in, deeds_in, arrivals, drew_in, entered}
+use Rattle.monk_hall.specs.Schedules.{IsLedStep, IsOneHistory, EveryScheduleIsOneHistory}
 
 -- after this step a record is as it was, except for what it has seen, and for the meeting
 pub record IsAs (x : Step) (s : HallState) (q : SeatRecord) : Type 0 where

@@ -1,22 +1,21 @@
 -- The floor that an active seat takes home is one with which it went on, by calls that its kind allows
 use Rattle.std.proofs.Common.{◌≡◌, ℕ, List, [], ◌∷◌, ◌++◌, sym, ap, subst, ◌∙◌, arith}
-use Rattle.std.proofs.Common.{append-nil, append_assoc}
+use Rattle.std.proofs.{Common.append-nil, Common.append_assoc, lemmas.Bool.Decides.nat_tests}
 use mathlib.Core.Option as maybe
 use lib.ListN.{get_elem?}
 use Rattle.monk_kinds.specs.{Kind.IsKind, declared.mode.Rules.Rules}
 use Rattle.monk_object.specs.Object.{Object}
-use Rattle.monk_history.{specs.Meaning.Legal.IsLegal, specs.Meaning.Turn.turn}
-use Rattle.monk_history.{specs.declared.event.Event.Event, proofs.PublicLaws.Meaning.turn-push}
+use Rattle.monk_history.proofs.PublicLaws.Meaning.{turn-push}
+use Rattle.monk_history.specs.{Meaning.Legal.IsLegal, Meaning.Turn.turn, declared.event.Event.Event}
 use Rattle.monk_floor.specs.View.{FloorView, monitor_of}
-use Rattle.monk_world.specs.{State.with_event, declared.place.Place.TheVariants.Active, declared.source.Source.Source}
-use Rattle.monk_world.specs.Places.{stage, active_stage}
+use Rattle.monk_world.specs.{State.with_event, Places.stage, Places.active_stage}
+use Rattle.monk_world.specs.declared.{place.Place.TheVariants.Active, source.Source.Source}
 use Rattle.monk_hall.proofs.Standing as standing
 use Rattle.monk_hall.proofs.Stepping as stepping
 use Rattle.monk_hall.proofs.{Private.own_event, EntrySteps.out_seat, EntrySteps.out_owns, TokenLaws.grown_goes}
 use Rattle.monk_hall.specs.{Changes.source_from, Floors.GoesOn, Laws.HallState, Layout.floor_of, Rule.IsHall}
-use Rattle.monk_hall.specs.{Tells.Returns, declared.record.SeatRecord.SeatRecord, declared.setting.Setting.Setting}
-use Rattle.monk_hall.specs.Schedules.{ArePlayed, IsReleasedBy, came_in}
-use Rattle.std.proofs.lemmas.Bool.Decides.{nat_tests}
+use Rattle.monk_hall.specs.{Tells.Returns, Schedules.ArePlayed, Schedules.IsReleasedBy, Schedules.came_in}
+use Rattle.monk_hall.specs.declared.{record.SeatRecord.SeatRecord, setting.Setting.Setting}
 
 -- a floor goes on with each event of its own that is allowed
 played_goes : (k : Rules) (o : Object) (r : SeatRecord) (f : FloorView) (es : List Event) → GoesOn k o r f

@@ -1,14 +1,13 @@
 -- One seat's record changes, and the others stay
 use Rattle.std.proofs.Common.{◌≡◌, ℕ, zero, suc, ◌<◌, List, [], ◌∷◌, set, length, sym, refl, ap, ◌∙◌, subst, inl, inr, ⊎_elim, arith}
-use Rattle.std.proofs.{lemmas.Bool.Decides.eqb_tells, Math.Option.some-injective}
+use Rattle.std.proofs.{lemmas.Bool.Decides.eqb_tells, lemmas.Bool.Decides.nat_tests, Math.Option.some-injective}
 use mathlib.Core.Option.{some}
 use lib.ListN.{get_elem?}
 use Rattle.atomic_table.proofs.Lists.{at_set, set_else, set_here}
 use Rattle.monk_world.proofs.PublicLaws.{at_update, update_here, update_else}
 use Rattle.monk_world.specs.Update.{update}
-use Rattle.monk_hall.specs.{Rule.AreShown, declared.record.SeatRecord.SeatRecord, declared.setting.Setting.Setting}
-use Rattle.monk_hall.specs.Records.{View, In}
-use Rattle.std.proofs.lemmas.Bool.Decides.{nat_tests}
+use Rattle.monk_hall.specs.{Rule.AreShown, Records.View, Records.In}
+use Rattle.monk_hall.specs.declared.{record.SeatRecord.SeatRecord, setting.Setting.Setting}
 
 pub long : {A : Type 0} (l : List A) (i : ℕ) (a : A) → get_elem? l i ≡ some a → i < length l
 long [] i a e = absurd cc

@@ -1,21 +1,19 @@
 -- What tokens keep through a look, and through an event of the active seat
 use Rattle.std.proofs.Common.{◌≡◌, ◌+◌, ◌<◌, ◌≤◌, false, [], ◌∷◌, ◌++◌}
 use Rattle.std.proofs.Common.{length, append_assoc, refl, sym, ap, subst, ◌∙◌, arith}
+use Rattle.std.proofs.lemmas.Bool.Decides.{nat_tests}
 use Rattle.atomic_table.specs.Seated.{TableId}
 use Rattle.monk_kinds.specs.declared.mode.Rules.{Rules}
 use Rattle.monk_object.specs.Object.{Object}
 use Rattle.monk_history.proofs.PublicLaws.Meaning.{legal-push, turn-push}
-use Rattle.monk_history.specs.Meaning.{Counts.events_of, Counts.is_enter, Events.seat_of, Events.next_of, Legal.IsLegal}
-use Rattle.monk_history.specs.Meaning.{Reasons.IsAllowed, Turn.turn_by}
+use Rattle.monk_history.specs.Meaning.{Events.seat_of, Events.next_of, Legal.IsLegal, Reasons.IsAllowed, Turn.turn_by}
+use Rattle.monk_history.specs.Meaning.Counts.{events_of, is_enter}
 use Rattle.monk_history.specs.declared.event.{Event.Event, Turn.TheVariants.Owned}
 use Rattle.monk_floor.specs.View.{FloorView, monitor_of}
-use Rattle.monk_world.specs.{State.with_event}
+use Rattle.monk_world.specs.State.{with_event}
 use Rattle.monk_hall.proofs.{Private.own_event, EntrySteps.own_longer, EntrySteps.own_more}
-use Rattle.monk_hall.specs.{Floors.GoesOn, Records.the, Tells.Me}
-use Rattle.monk_hall.specs.Tokens.{IsHolding, holder}
-use Rattle.monk_hall.specs.Calls.{HasDone}
+use Rattle.monk_hall.specs.{Floors.GoesOn, Records.the, Tells.Me, Tokens.IsHolding, Tokens.holder, Calls.HasDone}
 use Rattle.monk_hall.specs.declared.{record.SeatRecord.SeatRecord, seat_numbers.SeatNumbers.SeatNumbers}
-use Rattle.std.proofs.lemmas.Bool.Decides.{nat_tests}
 
 module _ {k : Rules} {o : Object} where
   -- an event of the active seat that keeps the turn with it

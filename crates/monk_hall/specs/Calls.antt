@@ -1,9 +1,9 @@
 -- What each call promises, of the token that was handed in and of the one that it returns
 use Rattle.std.specs.Prelude.{◌≡◌, ℕ, ◌+◌, ◌==◌, ◌≤◌, ◌&&◌, not, Bool, true, false, if◌then◌else◌, List, [], ◌∷◌, ◌++◌, replicate}
 use Rattle.std.specs.Prelude.{Option, Some, None}
+use Rattle.monk_kinds.specs.declared.mode.Rules.{Rules}
 use Rattle.monk_kinds.specs.declared.mode.Pick.{Pick, TheVariants.Entry as WishEntry, TheVariants.Waiter as WishWaiter}
 use Rattle.monk_kinds.specs.declared.mode.Pick.{TheVariants.Signaller as WishSignaller}
-use Rattle.monk_kinds.specs.declared.mode.Rules.{Rules}
 use Rattle.monk_object.specs.Object.{Object}
 use Rattle.monk_history.specs.declared.event.Next.TheVariants as next
 use Rattle.monk_history.specs.Meaning.{Choice.must_stay, Counts.enters_of, Counts.events_of, Events.is_stay}
@@ -13,17 +13,16 @@ use Rattle.monk_floor.specs.View.{FloorView, monitor_of, stands_of}
 use Rattle.monk_world.specs.declared.home.Home.TheVariants as home
 use Rattle.monk_world.specs.{Places.place_of, State.with_event, StepTable.out_event}
 use Rattle.monk_world.specs.Steps.{place_after_ticket_look, place_after_seat_look, count_after_seat_look}
-use Rattle.monk_world.specs.declared.place.Place.{Place}
-use Rattle.monk_world.specs.declared.place.Place.TheVariants.{Idle, Ticket, Due, Active, Back, Passing, Inner}
 use Rattle.monk_world.specs.declared.source.Source.TheVariants.{Free, Granted, Called}
 use Rattle.monk_world.specs.declared.home.Home.{Home}
+use Rattle.monk_world.specs.declared.place.Place.{Place}
+use Rattle.monk_world.specs.declared.place.Place.TheVariants.{Idle, Ticket, Due, Active, Back, Passing, Inner}
 use Rattle.monk_hall.specs.{Floors.StartsWith, Handing.HandsOn, Handing.seat_called_by, Layout.tickets, Layout.floor_of}
-use Rattle.monk_hall.specs.{Tells.SeesTruly, Tokens.Token, Tokens.Holder}
-use Rattle.monk_hall.specs.Changes.{record_after_arrive, source_from, since}
-use Rattle.monk_hall.specs.Deeds.{knows_from, look_at, looks_in_vain}
-use Rattle.monk_hall.specs.declared.record.SeatRecord.{SeatRecord}
+use Rattle.monk_hall.specs.{Tells.SeesTruly, Tokens.Token, Tokens.Holder, Changes.record_after_arrive}
+use Rattle.monk_hall.specs.{Changes.source_from, Changes.since, Deeds.knows_from, Deeds.look_at, Deeds.looks_in_vain}
 use Rattle.monk_hall.specs.declared.deed.Deed.{Deed}
 use Rattle.monk_hall.specs.declared.deed.Deed.TheVariants.{LookForTicket, LookForCall, Peek, FloorOut, FloorIn}
+use Rattle.monk_hall.specs.declared.record.SeatRecord.{SeatRecord}
 
 -- it has drawn a ticket, with a number not below the enters that it has seen
 pub record HasArrived (k : Rules) (o : Object) (p q : Token) : Type 0 where

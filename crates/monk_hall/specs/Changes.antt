@@ -5,13 +5,12 @@ use Rattle.monk_history.specs.declared.event.Next.TheVariants as next
 use Rattle.monk_history.specs.Meaning.{Counts.events_of, Events.next_of, Events.is_way_out}
 use Rattle.monk_history.specs.declared.event.{Event.Event, Next.Next}
 use Rattle.monk_world.specs.declared.home.Home.TheVariants as home
-use Rattle.monk_world.specs.Places.{ticket, place_of}
-use Rattle.monk_world.specs.Steps.{place_after_arrive, place_after_ticket_look, place_after_seat_look}
-use Rattle.monk_world.specs.Steps.{count_after_seat_look, place_after_drop}
-use Rattle.monk_world.specs.declared.place.Place.{Place}
-use Rattle.monk_world.specs.declared.place.Place.TheVariants.{Idle, Ticket, Due, Active, Back, Passing, Inner}
+use Rattle.monk_world.specs.{Places.ticket, Places.place_of, Steps.place_after_arrive, Steps.place_after_ticket_look}
+use Rattle.monk_world.specs.{Steps.place_after_seat_look, Steps.count_after_seat_look, Steps.place_after_drop}
 use Rattle.monk_world.specs.declared.source.Source.{Source, TheVariants.Granted, TheVariants.Called}
 use Rattle.monk_world.specs.declared.home.Home.{Home}
+use Rattle.monk_world.specs.declared.place.Place.{Place}
+use Rattle.monk_world.specs.declared.place.Place.TheVariants.{Idle, Ticket, Due, Active, Back, Passing, Inner}
 use Rattle.monk_hall.specs.declared.deed.Deed.TheVariants as deed
 use Rattle.monk_hall.specs.{Layout.tickets, Layout.unpassed, Records.View, Records.the, Records.tail}
 use Rattle.monk_hall.specs.declared.{deed.Deed.Deed, record.SeatRecord.SeatRecord}

@@ -1,18 +1,17 @@
 -- The judge's run is, but for the wake-ups that nobody sent, what its lines ask for. These come just before their
 -- threads come back
 use Rattle.std.proofs.Common.{◌≡◌, ℕ, zero, suc, ◌+◌, ◌<◌, ◌≤◌, Bool, true, false, List, [], ◌∷◌, ◌++◌, Option, None, length, get_or, drop, arith, refl, sym, ap, ◌∙◌}
-use Rattle.std.proofs.lemmas.List.{append-nil, append_assoc}
+use Rattle.std.proofs.lemmas.{List.append-nil, List.append_assoc, Bool.Decides.nat_tests}
 use Rattle.monk_logs.specs.Log.{line_seat}
 use Rattle.monk_logs.specs.declared.text.line.LogLine.{LogLine}
 use Rattle.monk_logs.specs.declared.text.line.LogLine.TheVariants.{Enter, Resume, Lapse, Leave, Wait, Signal, Broadcast}
 use Rattle.monk_logs.specs.declared.text.line.LogLine.TheVariants.{Until, Act}
 use Rattle.monk_judge.specs.{Ends.lapses_next, Judged.CanStand, Judged.running_out, Judged.steps_at, Judged.waking}
 use Rattle.monk_judge.specs.Asked.{ComeBackAtOnce, TellsFirst, asked, asked_by, asked_of}
-use Rattle.monk_judge.specs.Run.{Setting, State}
+use Rattle.monk_judge.specs.declared.step.Step.{Step, TheVariants.Tells, TheVariants.RunsOut, TheVariants.WakesUnasked}
 use Rattle.monk_judge.specs.declared.place.Place.{Place}
 use Rattle.monk_judge.specs.declared.place.Place.TheVariants.{Outside, Active, Waiting, Woken, RanOut}
-use Rattle.monk_judge.specs.declared.step.Step.{Step, TheVariants.Tells, TheVariants.RunsOut, TheVariants.WakesUnasked}
-use Rattle.std.proofs.lemmas.Bool.Decides.{nat_tests}
+use Rattle.monk_judge.specs.Run.{Setting, State}
 
 asked_on : (a b : List Step) → asked (a ++ b) ≡ asked a ++ asked b
 asked_on [] b = refl

@@ -1,8 +1,7 @@
 -- How many of the first numbers pass a test
 use Rattle.std.proofs.Common.{◌≡◌, ℕ, zero, suc, ◌+◌, ◌<◌, ◌≤◌, ◌⊎◌, inl, inr, Bool, true, false, refl, ap, arith}
-use Rattle.std.proofs.lemmas.Bool.{cases_Bool}
+use Rattle.std.proofs.lemmas.Bool.{cases_Bool, Decides.nat_tests}
 use Rattle.monk_judge.specs.Counts.{count, one}
-use Rattle.std.proofs.lemmas.Bool.Decides.{nat_tests}
 
 pub one_most : (b : Bool) → one b ≤ 1
 one_most b = grind (arith, nat_tests)

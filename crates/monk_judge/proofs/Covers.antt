@@ -1,6 +1,6 @@
 -- The judge's state covers each run of the lines so far
 use Rattle.std.proofs.Common.{◌≡◌, ℕ, suc, ◌<◌, Bool, true, List, [], ◌∷◌, ◌++◌, Option, length, get_or, take, drop, ◌+◌, add-one, arith, refl, sym, ap, subst, ◌∙◌}
-use Rattle.std.proofs.{Math.Seq.drop-cons, lemmas.Grind.common_steps}
+use Rattle.std.proofs.{Math.Seq.drop-cons, lemmas.Grind.common_steps, lemmas.Bool.Decides.nat_tests}
 use Rattle.monk_logs.specs.Log.{line_seat}
 use Rattle.monk_logs.specs.declared.text.line.LogLine.{LogLine, TheVariants.Enter, TheVariants.Signal}
 use Rattle.monk_judge.proofs.{Sound.line_run, Sound.line_told, Sound.lines_on, Sound.run_on, Least.Dom}
@@ -9,10 +9,9 @@ use Rattle.monk_judge.proofs.Complete.{silent}
 use Rattle.monk_judge.proofs.LeastLaw.{GoesOnWithin, cost_on, line_dom, out_dom, unasked_dom, unasked_on}
 use Rattle.monk_judge.specs.{Counts.one, Counts.waits_on, Ends.lapses_next, Ends.resumes_within, Explains.IsExplainable}
 use Rattle.monk_judge.specs.Judged.{CanStand, IsRight, after_all, steps_at}
-use Rattle.monk_judge.specs.Run.{Setting, State, May, after, IsRun, lines_of, opening, run_out, woken_unasked}
-use Rattle.monk_judge.specs.declared.place.Place.TheVariants.{Waiting}
 use Rattle.monk_judge.specs.declared.step.Step.{Step, TheVariants.Tells, TheVariants.RunsOut, TheVariants.WakesUnasked}
-use Rattle.std.proofs.lemmas.Bool.Decides.{nat_tests}
+use Rattle.monk_judge.specs.declared.place.Place.TheVariants.{Waiting}
+use Rattle.monk_judge.specs.Run.{Setting, State, May, after, IsRun, lines_of, opening, run_out, woken_unasked}
 
 -- the steps are a run of those lines and lead to the state; compared with any other run of them,
 -- the state is the judge's, and on no condition were more threads woken unasked

@@ -1,12 +1,11 @@
 -- A run is followed step by step
 use Rattle.std.proofs.Common.{◌≡◌, ◌∙◌, ◌+◌, ◌<◌, ◌≤◌, ℕ, zero, suc, List, [], ◌∷◌, ◌++◌, length, get_or, take, drop, refl, sym, ap, ap₂, arith}
-use Rattle.std.proofs.Math.Seq.{drop-cons}
-use Rattle.std.proofs.lemmas.List.{append-nil, append_assoc, drop_all, take_all, take_more}
+use Rattle.std.proofs.{Math.Seq.drop-cons, lemmas.List.append-nil, lemmas.List.append_assoc, lemmas.List.drop_all}
+use Rattle.std.proofs.{lemmas.List.take_all, lemmas.List.take_more, lemmas.Bool.Decides.nat_tests}
 use Rattle.monk_judge.specs.{Judged.after_all, Run.Setting, Run.State, Run.IsRun, Run.after}
 use Rattle.monk_judge.specs.Followed.{behind_lines, left_by, places_below, telling}
-use Rattle.monk_judge.specs.declared.place.Place.{Place, TheVariants.Outside}
 use Rattle.monk_judge.specs.declared.step.Step.{Step, TheVariants.Tells, TheVariants.RunsOut, TheVariants.WakesUnasked}
-use Rattle.std.proofs.lemmas.Bool.Decides.{nat_tests}
+use Rattle.monk_judge.specs.declared.place.Place.{Place, TheVariants.Outside}
 
 -- ---- places as a list
 

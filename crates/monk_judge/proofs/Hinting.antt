@@ -1,19 +1,18 @@
 -- What is known of overtaken threads, after one more line
 use Rattle.std.proofs.Common.{◌≡◌, ℕ, suc, ◌+◌, ◌<◌, ◌≤◌, ◌⊎◌, inl, inr, true, false, List, [], ◌∷◌, ◌++◌, Option, Some, None, length, refl, sym, ap, subst, arith, ◌∙◌}
-use Rattle.std.proofs.lemmas.Bool.{cases_Bool, false≢true}
+use Rattle.std.proofs.lemmas.Bool.{cases_Bool, false≢true, Decides.nat_tests}
 use Rattle.monk_logs.specs.{Log.line_seat, declared.text.line.LogLine.LogLine}
 use Rattle.monk_judge.proofs.{Missing.more_many, Moments.moment_kept, Moves.Moves, Passing.Marks, Visits.seat_kept}
-use Rattle.monk_judge.proofs.Rivals.{comes_otherwise, comes_overtaken, told_by}
 use Rattle.monk_judge.proofs.Many.{many_skip, many_within, same_self}
 use Rattle.monk_judge.proofs.Returning.{BackAt, Hinted, HintedBefore, IsBack, IsBackAt, again_same, before_same}
 use Rattle.monk_judge.proofs.Returning.{before_waits, no_wait, others_line}
 use Rattle.monk_judge.proofs.Among.{first_here, first_skip, here_or_below}
+use Rattle.monk_judge.proofs.Rivals.{comes_otherwise, comes_overtaken, told_by}
 use Rattle.monk_judge.proofs.Nexts.{HasNext, at_last, goes_by, next_kept, on_kept, overtaken_kept}
-use Rattle.monk_judge.specs.{declared.overtaking.Back.Back, declared.overtaking.Hints.Hints, Among.AreMany}
-use Rattle.monk_judge.specs.{Among.NamesFirst, Holding.takes_lock, Moments.Moment, Run.State}
-use Rattle.monk_judge.specs.Overtaken.{GoesOn, GoesOnBy, IsOvertaken, IsOvertakenOn, WaitsAgain, seat_at}
+use Rattle.monk_judge.specs.{Among.AreMany, Among.NamesFirst, Holding.takes_lock, Moments.Moment, Run.State}
 use Rattle.monk_judge.specs.Hints.{Answers, ComesBack, AnswersOwn, AnswersBy, first_of, passed_of}
-use Rattle.std.proofs.lemmas.Bool.Decides.{nat_tests}
+use Rattle.monk_judge.specs.declared.overtaking.{Back.Back, Hints.Hints}
+use Rattle.monk_judge.specs.Overtaken.{GoesOn, GoesOnBy, IsOvertaken, IsOvertakenOn, WaitsAgain, seat_at}
 
 -- ---- who is back after the line
 

@@ -1,16 +1,14 @@
 -- No run has fewer wake-ups that nobody sent than the judge's
 use Rattle.std.proofs.Common.{◌≡◌, ℕ, zero, suc, ◌+◌, ◌<◌, ◌≤◌, ◌==◌, ◌&&◌, inl, inr, Bool, true, false, List, [], ◌∷◌, refl, sym, ap, arith, ◌∙◌, if◌then◌else◌}
-use Rattle.std.proofs.lemmas.Bool.{cases_Bool, eq-eqb, eqb-true, false≢true, ne_eqb}
+use Rattle.std.proofs.lemmas.Bool.{cases_Bool, eq-eqb, eqb-true, false≢true, ne_eqb, Decides.nat_tests}
 use Rattle.monk_logs.specs.Log.{is_lapse, line_seat}
-use Rattle.monk_logs.specs.declared.text.line.LogLine.{LogLine}
-use Rattle.monk_logs.specs.declared.text.line.LogLine.TheVariants.{Resume}
+use Rattle.monk_logs.specs.declared.text.line.LogLine.{LogLine, TheVariants.Resume}
 use Rattle.monk_judge.proofs.{LinesAhead.past_other, LinesAhead.past_own, Complete.Foreseen}
 use Rattle.monk_judge.proofs.Counting.{count_below, count_drop, count_moved, count_none, count_same, count_some, lt_or}
 use Rattle.monk_judge.specs.{Run.Sleeps, Run.run_out, Run.woken, Run.woken_unasked, Run.with_place, Counts.count}
 use Rattle.monk_judge.specs.{Counts.one, Counts.waits_on, Ends.is_resume, Ends.lapses_next, Ends.resumes_within}
 use Rattle.monk_judge.specs.declared.place.Place.{Place}
 use Rattle.monk_judge.specs.declared.place.Place.TheVariants.{Outside, Active, Waiting, Woken, RanOut}
-use Rattle.std.proofs.lemmas.Bool.Decides.{nat_tests}
 
 -- whether a thread in that place came to sleep on the condition and wasn't woken
 abbrev pub asleep_on : ℕ → Place → Bool

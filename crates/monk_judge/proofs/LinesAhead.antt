@@ -1,13 +1,12 @@
 -- How waits end, one line earlier and one line later
 use Rattle.std.proofs.Common.{◌≡◌, ℕ, zero, suc, ◌+◌, ◌<◌, ◌≤◌, ◌⊎◌, inl, inr, true, List, [], ◌∷◌, length, get_or, set, replicate, drop, refl, sym, ap, subst, arith, ◌∙◌, if◌then◌else◌}
-use Rattle.std.proofs.lemmas.Bool.{false≢true, ne_eqb}
+use Rattle.std.proofs.lemmas.Bool.{false≢true, ne_eqb, Decides.nat_tests}
 use Rattle.std.proofs.lemmas.List.{drop_all, get_or-set_same, get_or-set_other}
 use Rattle.monk_logs.specs.Log.{is_lapse, line_seat}
 use Rattle.monk_logs.specs.declared.text.line.LogLine.{LogLine, TheVariants.Enter}
 use Rattle.monk_judge.specs.Ends.{IsEnd, ResumesBy, is_resume, lapses_next, resumes_within, runs_out}
 use Rattle.monk_judge.specs.declared.wait_end.WaitEnd.{WaitEnd}
 use Rattle.monk_judge.specs.declared.wait_end.WaitEnd.TheVariants.{Resumes, RunsOut, Never}
-use Rattle.std.proofs.lemmas.Bool.Decides.{nat_tests}
 
 -- ---- past a line
 

@@ -1,14 +1,13 @@
 -- The first missed signal, after one more line
 use Rattle.std.proofs.Common.{◌≡◌, ℕ, ◌+◌, ◌<◌, ◌||◌, ◌⊎◌, inl, inr, Bool, true, false, List, [], ◌∷◌, ◌++◌, Option, None, length, sym, ap, subst, arith, ◌∙◌}
-use Rattle.std.proofs.lemmas.{List.length-append, Bool.cases_Bool, Bool.false≢true}
+use Rattle.std.proofs.lemmas.{List.length-append, Bool.cases_Bool, Bool.false≢true, Bool.Decides.nat_tests}
 use Rattle.monk_object.specs.Object.{Object}
 use Rattle.monk_logs.specs.declared.text.line.LogLine.{LogLine}
-use Rattle.monk_judge.proofs.Moments.{moment_kept, moment_last}
 use Rattle.monk_judge.proofs.Among.{first_here, first_skip, here_or_below}
+use Rattle.monk_judge.proofs.Moments.{moment_kept, moment_last}
 use Rattle.monk_judge.specs.{Among.NamesFirst, Moments.Moment, Moments.moment, Run.State}
 use Rattle.monk_judge.specs.declared.{missed.Missed.Missed, waits_for.WaitsFor.WaitsFor}
 use Rattle.monk_judge.specs.Missed.{IsMissedAt, LacksBehind, LooksAt, NamesFirstMissed, is_from_outside}
-use Rattle.std.proofs.lemmas.Bool.Decides.{nat_tests}
 
 abbrev pub is_out : List Moment → ℕ → Bool
 is_out all j = is_from_outside (moment all j).before.lock (moment all j).line

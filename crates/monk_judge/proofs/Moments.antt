@@ -1,17 +1,15 @@
 -- What the lines of a run find, after one more line
 use Rattle.std.proofs.Common.{◌≡◌, ℕ, ◌<◌, Bool, true, false, List, [], ◌∷◌, ◌++◌, Option, None, length, refl, arith}
-use Rattle.std.proofs.Math.{ListN.get_or-append, Seq.get_or-append_seam}
+use Rattle.std.proofs.{Math.ListN.get_or-append, Math.Seq.get_or-append_seam, lemmas.Bool.Decides.nat_tests}
 use Rattle.monk_logs.specs.declared.text.line.LogLine.{LogLine}
 use Rattle.monk_logs.specs.declared.text.line.LogLine.TheVariants.{Enter, Resume, Lapse, Leave, Wait, Signal, Broadcast}
 use Rattle.monk_logs.specs.declared.text.line.LogLine.TheVariants.{Until, Act}
+use Rattle.monk_judge.specs.{Moments.Moment, Moments.moment, Moments.moments, Moments.settled, Run.Setting, Run.State}
+use Rattle.monk_judge.specs.{Run.after, Run.lines_of, Run.lets_go, Run.takes, Counts.finds_nobody, Counts.total}
 use Rattle.monk_judge.specs.Judged.{CanStand, after_all, running_out, steps_at, waking}
-use Rattle.monk_judge.specs.Moments.{Moment, moment, moments, settled}
-use Rattle.monk_judge.specs.Run.{Setting, State, after, lines_of, lets_go, takes}
+use Rattle.monk_judge.specs.declared.step.Step.{Step, TheVariants.Tells, TheVariants.RunsOut, TheVariants.WakesUnasked}
 use Rattle.monk_judge.specs.declared.place.Place.{Place}
 use Rattle.monk_judge.specs.declared.place.Place.TheVariants.{Outside, Active, Waiting, Woken, RanOut}
-use Rattle.monk_judge.specs.declared.step.Step.{Step, TheVariants.Tells, TheVariants.RunsOut, TheVariants.WakesUnasked}
-use Rattle.monk_judge.specs.Counts.{finds_nobody, total}
-use Rattle.std.proofs.lemmas.Bool.Decides.{nat_tests}
 
 -- ---- two parts of a run
 

@@ -1,6 +1,6 @@
 -- How a line that the judge takes changes the lock and woken threads
 use Rattle.std.proofs.Common.{◌≡◌, ℕ, ◌⊎◌, inl, inr, Bool, true, false, ◌∷◌, [], ◌++◌, Option, Some, None, refl, sym, ap, subst, ◌∙◌}
-use Rattle.std.proofs.lemmas.Bool.{false≢true}
+use Rattle.std.proofs.{lemmas.Bool.false≢true, lemmas.Bool.Decides.nat_tests, Common.arith}
 use Rattle.monk_object.specs.declared.op.Op.{Op}
 use Rattle.monk_logs.specs.Log.{line_seat}
 use Rattle.monk_logs.specs.declared.text.line.LogLine.{LogLine}
@@ -9,13 +9,10 @@ use Rattle.monk_logs.specs.declared.text.line.LogLine.TheVariants.{Until, Act}
 use Rattle.monk_judge.proofs.{Least.elsewhere, Least.here, Sleepers.HoldersAct}
 use Rattle.monk_judge.specs.{Ends.is_resume, Holding.takes_lock, Overtaken.is_refused}
 use Rattle.monk_judge.specs.Judged.{CanStand, IsRight, after_all, running_out, steps_at, waking}
-use Rattle.monk_judge.specs.Run.{HasRunOut, Setting, State, after, takes, WakesRightly, signalled, with_place}
-use Rattle.monk_judge.specs.Run.{woken}
+use Rattle.monk_judge.specs.declared.step.Step.TheVariants.{Tells, WakesUnasked}
 use Rattle.monk_judge.specs.declared.place.Place.{Place}
 use Rattle.monk_judge.specs.declared.place.Place.TheVariants.{Outside, Active, Waiting, Woken, RanOut}
-use Rattle.monk_judge.specs.declared.step.Step.TheVariants.{Tells, WakesUnasked}
-use Rattle.std.proofs.lemmas.Bool.Decides.{nat_tests}
-use Rattle.std.proofs.Common.{arith}
+use Rattle.monk_judge.specs.Run.{HasRunOut, Setting, State, after, takes, WakesRightly, signalled, with_place, woken}
 
 pub record Moves (x : State) (l : LogLine) (y : State) : Type 0 where
   pub free : takes_lock l ≡ true → x.lock ≡ None

@@ -1,13 +1,11 @@
 -- The next line of a thread that came back overtaken, after one more line
 use Rattle.std.proofs.Common.{◌≡◌, ℕ, ◌<◌, List, [], ◌∷◌, ◌++◌, length, sym, ap, arith, ◌∙◌}
-use Rattle.monk_logs.specs.Log.{line_seat}
-use Rattle.monk_logs.specs.declared.text.line.LogLine.{LogLine}
+use Rattle.std.proofs.lemmas.Bool.Decides.{nat_tests}
+use Rattle.monk_logs.specs.{Log.line_seat, declared.text.line.LogLine.LogLine}
 use Rattle.monk_judge.proofs.{Among.SameBelow, Among.here_or_below, Missing.more_many, Moments.moment_kept}
 use Rattle.monk_judge.proofs.{Moments.moment_last, Visits.passed_kept, Visits.seat_kept}
-use Rattle.monk_judge.specs.{Moments.Moment, Moments.moment}
-use Rattle.monk_judge.specs.Overtaken.{GoesOnBy, IsNext, IsOvertaken, IsOvertakenOn, WaitsAgain, is_refused}
-use Rattle.monk_judge.specs.Overtaken.{seat_at}
-use Rattle.std.proofs.lemmas.Bool.Decides.{nat_tests}
+use Rattle.monk_judge.specs.Overtaken.{GoesOnBy, IsNext, IsOvertaken, IsOvertakenOn, WaitsAgain, is_refused, seat_at}
+use Rattle.monk_judge.specs.Moments.{Moment, moment}
 
 -- ---- the lines before, after one more line
 

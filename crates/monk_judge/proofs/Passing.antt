@@ -1,18 +1,15 @@
 -- Which woken threads were passed, after one more line
 use Rattle.std.proofs.Common.{◌≡◌, ℕ, ◌+◌, ◌<◌, ◌≤◌, ◌==◌, ◌⊎◌, inl, inr, Bool, true, false, List, [], ◌∷◌, ◌++◌, Option, Some, None, length, get_or, if◌then◌else◌, refl, sym, ap, arith, ◌∙◌}
-use Rattle.std.proofs.lemmas.Bool.{cases_Bool, false≢true}
-use Rattle.monk_logs.specs.LastLine.{signals_to}
+use Rattle.std.proofs.lemmas.Bool.{cases_Bool, false≢true, Decides.nat_tests}
 use Rattle.monk_logs.specs.declared.text.line.LogLine.{LogLine}
 use Rattle.monk_logs.specs.declared.text.line.LogLine.TheVariants.{Enter, Resume, Lapse, Leave, Wait, Signal, Broadcast}
 use Rattle.monk_logs.specs.declared.text.line.LogLine.TheVariants.{Until, Act}
-use Rattle.monk_judge.proofs.Moves.{Moves}
+use Rattle.monk_logs.specs.LastLine.{signals_to}
 use Rattle.monk_judge.proofs.Visits.{IsPassing, passing_back, passing_more, passing_now}
-use Rattle.monk_judge.specs.{Holding.takes_lock, Overtaken.IsPassed, Overtaken.seat_at, Run.State}
-use Rattle.monk_judge.specs.Moments.{Moment, moment}
+use Rattle.monk_judge.proofs.Moves.{Moves}
+use Rattle.monk_judge.specs.{Holding.takes_lock, Overtaken.IsPassed, Overtaken.seat_at, Run.State, Moments.Moment}
+use Rattle.monk_judge.specs.{Moments.moment, declared.place.Place.Place, declared.place.Place.TheVariants.Woken}
 use Rattle.monk_judge.specs.Hints.{other_than, passed_after, passing_after, woken_on}
-use Rattle.monk_judge.specs.declared.place.Place.{Place}
-use Rattle.monk_judge.specs.declared.place.Place.TheVariants.{Woken}
-use Rattle.std.proofs.lemmas.Bool.Decides.{nat_tests}
 
 -- ---- what the tables say of one seat
 

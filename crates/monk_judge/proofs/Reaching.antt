@@ -1,21 +1,20 @@
 -- A run of the lines that a judge has taken
 use Rattle.std.proofs.Common.{◌≡◌, ℕ, ◌<◌, ◌≤◌, ◌+◌, List, [], ◌∷◌, ◌++◌, Some, None, length, get_or, take, drop, arith, refl, sym, ap, subst, ◌∙◌}
-use Rattle.std.proofs.{Math.ListN.length-set, lemmas.List.length-take-le, lemmas.List.take_all}
+use Rattle.std.proofs.lemmas.{List.length-take-le, List.take_all, Bool.Decides.nat_tests}
+use Rattle.std.proofs.Math.ListN.{length-set}
 use Rattle.monk_object.specs.Object.{Object}
-use Rattle.monk_logs.specs.declared.text.line.LogLine.{LogLine}
-use Rattle.monk_logs.specs.declared.text.line.LogLine.TheVariants.{Enter}
-use Rattle.monk_judge.proofs.{Moments.Meets, Moments.moments_many, Moments.moments_on, Totals.fewest}
-use Rattle.monk_judge.proofs.Asking.{asked_all, asked_next, back_next}
-use Rattle.monk_judge.proofs.Covers.{CoversAt, covers_explains, covers_next, covers_opening, covers_stop, rest_is}
+use Rattle.monk_logs.specs.declared.text.line.LogLine.{LogLine, TheVariants.Enter}
+use Rattle.monk_judge.proofs.{Totals.fewest, Asking.asked_all, Asking.asked_next, Asking.back_next}
 use Rattle.monk_judge.proofs.Sleepers.{EndsAt, ends_next, goes_first, outside_not}
-use Rattle.monk_judge.specs.{Ends.AreEnds, Ends.ends_after, Ends.runs_out, Explains.IsExplainable}
-use Rattle.monk_judge.specs.{Judged.CanStand, Judged.after_all, Moments.moments, Reports.IsRunOf}
-use Rattle.monk_judge.specs.Shown.{Refuses, Shown, Takes, own_steps, setting_of, state_of, whom}
+use Rattle.monk_judge.proofs.Covers.{CoversAt, covers_explains, covers_next, covers_opening, covers_stop, rest_is}
+use Rattle.monk_judge.proofs.Moments.{Meets, moments_many, moments_on}
+use Rattle.monk_judge.specs.{Explains.IsExplainable, Judged.CanStand, Judged.after_all, Moments.moments}
+use Rattle.monk_judge.specs.{Reports.IsRunOf, Run.Setting, Run.State, Run.IsRun, Run.lines_of, Run.opening, Run.unasked}
 use Rattle.monk_judge.specs.Asked.{ComeBackAtOnce, asked, asked_by}
-use Rattle.monk_judge.specs.Run.{Setting, State, IsRun, lines_of, opening, unasked}
+use Rattle.monk_judge.specs.Ends.{AreEnds, ends_after, runs_out}
+use Rattle.monk_judge.specs.Shown.{Refuses, Shown, Takes, own_steps, setting_of, state_of, whom}
 use Rattle.monk_judge.specs.declared.{misfit.Misfit.Misfit, told.Told.Told, step.Step.Step}
 use Rattle.monk_judge.specs.declared.wait_end.WaitEnd.{WaitEnd, TheVariants.Resumes}
-use Rattle.std.proofs.lemmas.Bool.Decides.{nat_tests}
 
 -- ---- a run of the lines so far
 

@@ -1,18 +1,17 @@
 -- The thread that came back overtaken last, and what it does next
 use Rattle.std.proofs.Common.{◌≡◌, ℕ, suc, ◌+◌, ◌<◌, ◌⊎◌, inl, inr, true, List, [], ◌∷◌, ◌++◌, Option, Some, None, length, if◌then◌else◌, sym, ap, subst, arith, ◌∙◌}
-use Rattle.std.proofs.lemmas.Bool.{eq-eqb, ne_eqb}
+use Rattle.std.proofs.lemmas.Bool.{eq-eqb, ne_eqb, Decides.nat_tests}
 use Rattle.monk_logs.specs.Log.{line_seat}
 use Rattle.monk_logs.specs.declared.text.line.LogLine.{LogLine, TheVariants.Wait}
 use Rattle.monk_judge.proofs.{Among.SameBelow, Among.here_or_below, Missing.more_many, Moments.moment_kept}
 use Rattle.monk_judge.proofs.{Rivals.resume_takes, Many.first_same, Many.many_one, Many.many_same, Visits.seat_kept}
 use Rattle.monk_judge.proofs.Nexts.{HasNext, again_back, again_if_next, again_more, at_last, cond_same, goes_by}
 use Rattle.monk_judge.proofs.Nexts.{on_kept, overtaken_kept}
-use Rattle.monk_judge.specs.{Hints.without, Holding.takes_lock, Moments.Moment, Moments.moment, Run.State}
+use Rattle.monk_judge.specs.{Hints.without, Holding.takes_lock, Run.State, Among.AreMany, Among.NamesFirst}
 use Rattle.monk_judge.specs.Overtaken.{CountsOvertaken, GoesOn, GoesOnBy, IsOvertaken, IsOvertakenOn, WaitsAgain}
 use Rattle.monk_judge.specs.Overtaken.{is_refused, seat_at}
 use Rattle.monk_judge.specs.declared.overtaking.{Back.Back, Hints.Hints}
-use Rattle.monk_judge.specs.Among.{AreMany, NamesFirst}
-use Rattle.std.proofs.lemmas.Bool.Decides.{nat_tests}
+use Rattle.monk_judge.specs.Moments.{Moment, moment}
 
 -- ---- the thread that came back last
 

@@ -1,20 +1,19 @@
 -- Who was passed, and who comes back so, after one more line
 use Rattle.std.proofs.Common.{◌≡◌, ℕ, ◌+◌, ◌<◌, ◌==◌, ◌⊎◌, inl, inr, Bool, true, false, List, [], ◌∷◌, ◌++◌, Option, Some, None, length, get_or, if◌then◌else◌, refl, sym, ap, subst, arith, ◌∙◌}
-use Rattle.std.proofs.lemmas.Bool.{eqb-true, false≢true}
+use Rattle.std.proofs.lemmas.Bool.{eqb-true, false≢true, Decides.nat_tests}
 use Rattle.monk_object.specs.declared.op.Op.{Op}
 use Rattle.monk_logs.specs.Log.{line_seat}
 use Rattle.monk_logs.specs.declared.text.line.LogLine.{LogLine}
 use Rattle.monk_logs.specs.declared.text.line.LogLine.TheVariants.{Enter, Resume, Lapse, Leave, Wait, Signal, Broadcast}
 use Rattle.monk_logs.specs.declared.text.line.LogLine.TheVariants.{Until, Act}
-use Rattle.monk_judge.proofs.{Among.here_or_below, Missing.more_many, Moves.Moves, Moves.active_woken}
-use Rattle.monk_judge.proofs.Moments.{moment_kept, moment_last}
+use Rattle.monk_judge.proofs.{Among.here_or_below, Missing.more_many, Moments.moment_kept, Moments.moment_last}
 use Rattle.monk_judge.proofs.Visits.{IsPassing, LeavesNow, passed_back, passed_kept, passed_more, passed_now, seat_kept}
 use Rattle.monk_judge.proofs.Passing.{Alone, Line, Marks, MarksMore, closed_next, open_next, some_none, some_some}
 use Rattle.monk_judge.proofs.Passing.{still_passing, still_woken, unmarked_by, unmarked_none, woken_same}
+use Rattle.monk_judge.proofs.Moves.{Moves, active_woken}
 use Rattle.monk_judge.specs.{Ends.is_resume, Holding.takes_lock, Moments.Moment, Moments.moment, Run.State}
 use Rattle.monk_judge.specs.Hints.{marked, passed_after, passed_of, unmarked}
 use Rattle.monk_judge.specs.Overtaken.{IsOvertaken, IsOvertakenOn, IsPassed, seat_at, waits_in}
-use Rattle.std.proofs.lemmas.Bool.Decides.{nat_tests}
 
 -- ---- who was passed
 

@@ -1,15 +1,14 @@
 -- What a write to the places shows
 use Rattle.std.proofs.Common.{◌≡◌, ℕ, ◌<◌, ◌==◌, Bool, true, false, List, Option, None, ◌∷◌, length, get_or, refl, if◌then◌else◌}
+use Rattle.std.proofs.{lemmas.Bool.eqb-true, lemmas.Bool.eq-eqb, lemmas.Bool.false≢true, lemmas.Bool.Decides.nat_tests}
+use Rattle.std.proofs.{lemmas.List.get_or-set_same, lemmas.List.get_or-set_other, Common.arith, Common.rules}
 use Rattle.std.proofs.Math.ListN.{set, length-set}
-use Rattle.std.proofs.lemmas.{Bool.eqb-true, Bool.eq-eqb, Bool.false≢true, List.get_or-set_same, List.get_or-set_other}
 use Rattle.monk_object.specs.Object.{Object}
-use Rattle.monk_judge.specs.{Run.run_out, Run.with_place, Judged.after_all, Judged.running_out}
-use Rattle.monk_judge.specs.Shown.{Shown, setting_of, shown, state_of}
+use Rattle.monk_judge.specs.{Run.run_out, Run.with_place, Shown.Shown, Shown.setting_of, Shown.shown, Shown.state_of}
+use Rattle.monk_judge.specs.Judged.{after_all, running_out}
 use Rattle.monk_judge.specs.declared.{wait_end.WaitEnd.WaitEnd, step.Step.TheVariants.Tells}
 use Rattle.monk_judge.specs.declared.place.Place.{Place, TheVariants.Outside, TheVariants.Waiting, TheVariants.RanOut}
 use Rattle.monk_logs.specs.declared.text.line.LogLine.TheVariants.{Wait}
-use Rattle.std.proofs.lemmas.Bool.Decides.{nat_tests}
-use Rattle.std.proofs.Common.{arith, rules}
 
 pub ext : (f g : ℕ → Place) → ((j : ℕ) → f j ≡ g j) → f ≡ g
 ext f g h = λ i. λ j. h j i

@@ -1,15 +1,14 @@
 -- What is told of a thread that comes in and waits to the end of its log
 use Rattle.std.proofs.Common.{◌≡◌, ℕ, List, [], ◌∷◌, Option, Some, None, length, arith, refl, sym, ap, subst, ◌∙◌}
+use Rattle.std.proofs.lemmas.Bool.Decides.{nat_tests}
 use Rattle.monk_object.specs.Object.{Object}
 use Rattle.monk_logs.specs.declared.text.line.LogLine.{LogLine, TheVariants.Enter, TheVariants.Resume, TheVariants.Wait}
 use Rattle.monk_judge.specs.{Counts.sleepers, Counts.woken_ones, Judged.after_all, Reports.IsReport, Reports.fitting}
-use Rattle.monk_judge.specs.{Run.opening, Run.setting, Sleeper.ToldAsleep, Sleeper.ToldMissed, Sleeper.comes_and_waits}
-use Rattle.monk_judge.specs.Moments.{Moment, moments}
-use Rattle.monk_judge.specs.Missed.{Holds, NamesFirstMissed}
-use Rattle.monk_judge.specs.Asked.{ComeBackAtOnce, asked, asked_by}
+use Rattle.monk_judge.specs.{Run.opening, Run.setting, Moments.Moment, Moments.moments, Missed.Holds}
+use Rattle.monk_judge.specs.{Missed.NamesFirstMissed, Asked.ComeBackAtOnce, Asked.asked, Asked.asked_by}
+use Rattle.monk_judge.specs.Sleeper.{ToldAsleep, ToldMissed, comes_and_waits}
 use Rattle.monk_judge.specs.declared.{report.Report.Report, waits_for.WaitsFor.WaitsFor}
 use Rattle.monk_judge.specs.declared.step.Step.{Step, TheVariants.Tells, TheVariants.RunsOut, TheVariants.WakesUnasked}
-use Rattle.std.proofs.lemmas.Bool.Decides.{nat_tests}
 
 -- the steps are these two
 record AreBoth (steps : List Step) : Type 0 where

@@ -1,21 +1,20 @@
 -- Who sleeps after a line, and how the waits end then
 use Rattle.std.proofs.Common.{◌≡◌, ℕ, zero, suc, ◌<◌, ◌+◌, ◌==◌, ◌⊎◌, inl, inr, Bool, true, false, List, [], ◌∷◌, ◌++◌, length, get_or, Option, Some, None, if◌then◌else◌, refl, sym, ap, subst, arith, ◌∙◌}
-use Rattle.std.proofs.lemmas.{Bool.eq-eqb, Bool.eqb-true, Bool.false≢true, List.get_or-set_same, List.get_or-set_other}
+use Rattle.std.proofs.lemmas.Bool.{eq-eqb, eqb-true, false≢true, Decides.nat_tests}
+use Rattle.std.proofs.lemmas.List.{get_or-set_same, get_or-set_other}
 use Rattle.monk_logs.specs.Log.{line_seat}
 use Rattle.monk_logs.specs.declared.text.line.LogLine.{LogLine}
 use Rattle.monk_logs.specs.declared.text.line.LogLine.TheVariants.{Enter, Resume, Lapse, Leave, Wait, Signal, Broadcast}
 use Rattle.monk_logs.specs.declared.text.line.LogLine.TheVariants.{Until, Act}
 use Rattle.monk_judge.proofs.{LinesAhead.end_past, Covers.GoesFirst, Least.elsewhere, LeastLaw.GoesOnWithin}
-use Rattle.monk_judge.specs.Judged.{CanStand, IsRight, after_all, running_out, steps_at, waking}
+use Rattle.monk_judge.specs.Ends.{IsEnd, ends_after, resumes_within, runs_out}
+use Rattle.monk_judge.specs.Shown.{IsEarliest, Shown, WakesEarliest, state_of}
 use Rattle.monk_judge.specs.Run.{Setting, State, MaySignal, WakesRightly, run_out, signalled, woken, woken_unasked}
 use Rattle.monk_judge.specs.Run.{with_place}
-use Rattle.monk_judge.specs.declared.place.Place.{Place}
-use Rattle.monk_judge.specs.declared.place.Place.TheVariants.{Outside, Active, Waiting}
-use Rattle.monk_judge.specs.declared.step.Step.TheVariants.{Tells}
+use Rattle.monk_judge.specs.Judged.{CanStand, IsRight, after_all, running_out, steps_at, waking}
 use Rattle.monk_judge.specs.declared.wait_end.WaitEnd.{WaitEnd, TheVariants.Resumes}
-use Rattle.monk_judge.specs.Shown.{IsEarliest, Shown, WakesEarliest, state_of}
-use Rattle.monk_judge.specs.Ends.{IsEnd, ends_after, resumes_within, runs_out}
-use Rattle.std.proofs.lemmas.Bool.Decides.{nat_tests}
+use Rattle.monk_judge.specs.declared.step.Step.TheVariants.{Tells}
+use Rattle.monk_judge.specs.declared.place.Place.{Place, TheVariants.Outside, TheVariants.Active, TheVariants.Waiting}
 
 -- ---- one thread in another place
 

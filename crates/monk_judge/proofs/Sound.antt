@@ -1,12 +1,10 @@
 -- If a line can follow, its steps are a run, and tell the line
 use Rattle.std.proofs.Common.{◌≡◌, ℕ, Bool, List, [], ◌∷◌, ◌++◌, Option, refl, ap}
+use Rattle.std.proofs.{lemmas.Bool.Decides.nat_tests, Common.arith}
 use Rattle.monk_logs.specs.declared.text.line.LogLine.{LogLine}
-use Rattle.monk_judge.specs.Run.{Setting, State, after, IsRun, lines_of}
-use Rattle.monk_judge.specs.declared.step.Step.{Step}
-use Rattle.monk_judge.specs.declared.step.Step.TheVariants.{Tells, RunsOut, WakesUnasked}
 use Rattle.monk_judge.specs.Judged.{CanStand, IsRight, after_all, steps_at}
-use Rattle.std.proofs.lemmas.Bool.Decides.{nat_tests}
-use Rattle.std.proofs.Common.{arith}
+use Rattle.monk_judge.specs.declared.step.Step.{Step, TheVariants.Tells, TheVariants.RunsOut, TheVariants.WakesUnasked}
+use Rattle.monk_judge.specs.Run.{Setting, State, after, IsRun, lines_of}
 
 -- one run after another
 pub run_on : (m : Setting) (x : State) (a b : List Step) → IsRun m x a → IsRun m (after_all m x a) b

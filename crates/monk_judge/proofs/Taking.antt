@@ -1,29 +1,26 @@
 -- What holds while a judge takes the lines of a log
 use Rattle.std.proofs.Common.{◌≡◌, Bool, false, ℕ, ◌<◌, ◌≤◌, ◌+◌, ◌*◌, List, [], ◌++◌, Option, Some, None, length, get_or, sym, ap, subst, arith, ◌∙◌}
+use Rattle.std.proofs.lemmas.Bool.Decides.{nat_tests}
 use Rattle.monk_object.specs.Object.{Object}
-use Rattle.monk_logs.specs.{Crossed.crossed_of, Log.line_seat}
-use Rattle.monk_logs.specs.declared.crossed.Crossed.{Crossed}
-use Rattle.monk_logs.specs.declared.text.line.LogLine.{LogLine}
-use Rattle.monk_logs.specs.declared.text.line.LogLine.TheVariants.{Enter}
+use Rattle.monk_logs.specs.{Crossed.crossed_of, Log.line_seat, declared.crossed.Crossed.Crossed}
+use Rattle.monk_logs.specs.{declared.text.line.LogLine.LogLine, declared.text.line.LogLine.TheVariants.Enter}
 use Rattle.monk_judge.proofs.{Missing.Known, Missing.known_next, Missing.known_opening, Holding.holder_is, Moves.Moves}
 use Rattle.monk_judge.proofs.{Moves.line_moves, Passing.Marks, Passing.MarksMore, Rivals.marks_next, Returning.Hinted}
 use Rattle.monk_judge.proofs.{Hinting.hinted_few, Hinting.hinted_next, Moments.line_meets}
 use Rattle.monk_judge.proofs.Reaching.{Reached, least_of, many_moments, moments_next, reached_next, reached_opening}
 use Rattle.monk_judge.proofs.Reaching.{run_all, run_stop, stands_there}
 use Rattle.monk_judge.proofs.Tallies.{CountsMore, IsNothing, counted_next}
-use Rattle.monk_judge.specs.{Ends.AreEnds, Ends.runs_out, Missed.LooksAt, Missed.is_from_outside, Hints.ComesBack}
-use Rattle.monk_judge.specs.{Hints.AnswersOwn, Hints.passed_of, Moments.Moment, Moments.moments}
-use Rattle.monk_judge.specs.declared.{holder.Holder.Holder, misfit.Misfit.Misfit, missed.Missed.Missed}
-use Rattle.monk_judge.specs.declared.{overtaking.Hints.Hints}
-use Rattle.monk_judge.specs.declared.{tally.Tally.Tally, told.Told.Told, waits_for.WaitsFor.WaitsFor, step.Step.Step}
-use Rattle.monk_judge.specs.declared.wait_end.WaitEnd.{WaitEnd, TheVariants.Resumes}
-use Rattle.monk_judge.specs.Holding.{NamesLastTaking, holder_by}
-use Rattle.monk_judge.specs.Judged.{CanStand, after_all, steps_at}
-use Rattle.monk_judge.specs.Run.{Setting, State, opening}
-use Rattle.monk_judge.specs.Reports.{IsCounted, IsReport, IsTaken, NamesFirstNeed, NamesLastUnheard, fitting}
-use Rattle.monk_judge.specs.Shown.{Refuses, Shown, Takes, own_steps, setting_of, state_of, whom}
+use Rattle.monk_judge.specs.{Ends.AreEnds, Ends.runs_out, Missed.LooksAt, Missed.is_from_outside, Moments.Moment}
+use Rattle.monk_judge.specs.{Moments.moments, Holding.NamesLastTaking, Holding.holder_by, Judged.CanStand}
+use Rattle.monk_judge.specs.{Judged.after_all, Judged.steps_at, Run.Setting, Run.State, Run.opening}
 use Rattle.monk_judge.specs.Counts.{is_asleep, sleepers, woken_ones}
-use Rattle.std.proofs.lemmas.Bool.Decides.{nat_tests}
+use Rattle.monk_judge.specs.Shown.{Refuses, Shown, Takes, own_steps, setting_of, state_of, whom}
+use Rattle.monk_judge.specs.declared.{holder.Holder.Holder, misfit.Misfit.Misfit, missed.Missed.Missed}
+use Rattle.monk_judge.specs.declared.{overtaking.Hints.Hints, tally.Tally.Tally, told.Told.Told}
+use Rattle.monk_judge.specs.declared.{waits_for.WaitsFor.WaitsFor, step.Step.Step}
+use Rattle.monk_judge.specs.declared.wait_end.WaitEnd.{WaitEnd, TheVariants.Resumes}
+use Rattle.monk_judge.specs.Hints.{ComesBack, AnswersOwn, passed_of}
+use Rattle.monk_judge.specs.Reports.{IsCounted, IsReport, IsTaken, NamesFirstNeed, NamesLastUnheard, fitting}
 
 -- ---- the counts so far
 

@@ -1,16 +1,15 @@
 -- Wake-ups that nobody sent are the sum of those on each condition
 use Rattle.std.proofs.Common.{◌≡◌, ℕ, zero, suc, ◌+◌, ◌<◌, ◌≤◌, ◌==◌, ◌⊎◌, inl, inr, Bool, List, [], ◌∷◌, if◌then◌else◌, refl, sym, ap, arith}
-use Rattle.std.proofs.lemmas.Bool.{eq-eqb, ne_eqb}
-use Rattle.monk_logs.specs.declared.text.line.LogLine.TheVariants.{Enter, Resume, Lapse, Leave, Wait, Signal, Broadcast, Until, Act}
+use Rattle.std.proofs.lemmas.Bool.{eq-eqb, ne_eqb, Decides.nat_tests}
+use Rattle.monk_logs.specs.declared.text.line.LogLine.TheVariants.{Enter, Resume, Lapse, Leave, Wait, Signal, Broadcast}
+use Rattle.monk_logs.specs.declared.text.line.LogLine.TheVariants.{Until, Act}
+use Rattle.monk_judge.proofs.{LeastLaw.unasked_on, Sleepers.active_not, Sleepers.outside_not, Sleepers.placed_sleeps}
+use Rattle.monk_judge.proofs.{Sleepers.run_out_not, Sleepers.signalled_back, Sleepers.unasked_not, Sleepers.woken_back}
+use Rattle.monk_judge.specs.Counts.{one, waits_on}
+use Rattle.monk_judge.specs.declared.step.Step.{Step, TheVariants.Tells, TheVariants.RunsOut, TheVariants.WakesUnasked}
 use Rattle.monk_judge.specs.declared.place.Place.{Place}
 use Rattle.monk_judge.specs.declared.place.Place.TheVariants.{Outside, Active, Waiting, Woken, RanOut}
-use Rattle.monk_judge.specs.Counts.{one, waits_on}
 use Rattle.monk_judge.specs.Run.{Setting, State, May, Sleeps, IsRun, after, opening, run_out, unasked, woken_unasked}
-use Rattle.monk_judge.specs.declared.step.Step.{Step}
-use Rattle.monk_judge.specs.declared.step.Step.TheVariants.{Tells, RunsOut, WakesUnasked}
-use Rattle.monk_judge.proofs.LeastLaw.{unasked_on}
-use Rattle.monk_judge.proofs.Sleepers.{active_not, outside_not, placed_sleeps, run_out_not, signalled_back, unasked_not, woken_back}
-use Rattle.std.proofs.lemmas.Bool.Decides.{nat_tests}
 
 -- ---- sums
 

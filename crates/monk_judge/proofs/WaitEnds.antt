@@ -1,10 +1,9 @@
 -- Which of two waits ends earlier
 use Rattle.std.proofs.Common.{◌≡◌, ◌⊎◌, ℕ, ◌≤◌, true, arith, sym, subst}
-use Rattle.std.{proofs.lemmas.Bool.ltb-true, specs.Prelude.nat_lt}
+use Rattle.std.{proofs.lemmas.Bool.ltb-true, proofs.lemmas.Bool.Decides.nat_tests, specs.Prelude.nat_lt}
 use Rattle.monk_judge.specs.Ends.{ResumesBy}
 use Rattle.monk_judge.specs.declared.wait_end.WaitEnd.{WaitEnd}
 use Rattle.monk_judge.specs.declared.wait_end.WaitEnd.TheVariants.{Resumes, RunsOut, Never}
-use Rattle.std.proofs.lemmas.Bool.Decides.{nat_tests}
 
 -- a wait that ends by a later line doesn't end by the earlier one
 pub resumes_later : (self other : WaitEnd) (mine others : ℕ) → self ≡ Resumes mine → other ≡ Resumes others

@@ -1,10 +1,9 @@
 -- Who waits on which condition, after one more line
 use Rattle.std.proofs.Common.{◌≡◌, ℕ, ◌+◌, ◌*◌, ◌<◌, ◌==◌, ◌&&◌, ◌||◌, ◌⊎◌, inl, inr, Bool, true, false, List, [], length, get_or, set, take, replicate, sym, ap, arith, ◌∙◌}
-use Rattle.std.proofs.lemmas.List.{get_or-replicate, get_or-set_other, get_or-set_same, Folds.list_any_more}
-use Rattle.monk_logs.specs.declared.text.line.LogLine.{LogLine}
-use Rattle.monk_logs.specs.declared.text.line.LogLine.TheVariants.{Enter, Wait}
-use Rattle.monk_judge.specs.{Hints.AreWaiters, Hints.waits_by, Overtaken.is_wait_of, Overtaken.waits_in}
 use Rattle.std.proofs.lemmas.Bool.Decides.{nat_tests}
+use Rattle.std.proofs.lemmas.List.{get_or-replicate, get_or-set_other, get_or-set_same, Folds.list_any_more}
+use Rattle.monk_logs.specs.declared.text.line.LogLine.{LogLine, TheVariants.Enter, TheVariants.Wait}
+use Rattle.monk_judge.specs.{Hints.AreWaiters, Hints.waits_by, Overtaken.is_wait_of, Overtaken.waits_in}
 
 -- at first nobody waits
 pub waiters_opening : AreWaiters [] (replicate 65536 false)

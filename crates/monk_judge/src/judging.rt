@@ -3,8 +3,7 @@
 ghost use Rattle.std.specs.Prelude.{◌≡◌, ◌<◌, ◌≤◌, IfOk, IfSome, length};
 ghost use Rattle.monk_history.specs.Limits.{most_lines};
 ghost use Rattle.monk_judge.specs.{Ends.AreEnds, Hints.AreWaiters, Holding.holder_by, Shown.setting_of, Shown.state_of};
-ghost use Rattle.monk_judge.specs.Reports.{IsReport, IsTaken, fitting};
-ghost use Rattle.monk_judge.specs.Run.{opening, setting};
+ghost use Rattle.monk_judge.specs.{Reports.IsReport, Reports.IsTaken, Reports.fitting, Run.opening, Run.setting};
 
 use crate::ahead::look_ahead;
 use crate::holder::{Holder, last_taking};

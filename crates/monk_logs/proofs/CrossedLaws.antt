@@ -2,17 +2,15 @@
 use Rattle.std.proofs.Common.{◌≡◌, ℕ, zero, suc, ◌+◌, ◌-◌, ◌<◌, ◌≤◌, ◌∙◌, Bool, true, false, cond, ⊎_elim}
 use Rattle.std.proofs.Common.{List, [], ◌∷◌, ◌++◌, length, get_or, set, take, replicate, reverse, Option, Some, None}
 use Rattle.std.specs.Prelude.{IfSome, if◌then◌else◌, slice_range}
-use Rattle.std.proofs.Common.{refl, sym, ap, arith, subst, length-take, take_all, get_or-set_same, get_or-set_other}
-use Rattle.std.proofs.lemmas.Bool.{cases_eq, eq-eqb, ne_eqb}
+use Rattle.std.proofs.lemmas.Bool.{cases_eq, eq-eqb, ne_eqb, Decides.nat_tests}
 use Rattle.std.proofs.lemmas.List.{length-reverse, reverse-append, take_more}
+use Rattle.std.proofs.Common.{refl, sym, ap, arith, subst, length-take, take_all, get_or-set_same, get_or-set_other}
 use Rattle.std.specs.Option.{option_or}
 use Rattle.monk_logs.proofs.LastLineLaws.{last_more}
-use Rattle.monk_logs.specs.{Log.line_seat, LastLine.has, LastLine.last_behind, LastLine.last_line}
+use Rattle.monk_logs.specs.{Log.line_seat, declared.crossed.Crossed.Crossed, declared.subject.Subject.TheVariants.Seat}
+use Rattle.monk_logs.specs.{declared.text.line.LogLine.LogLine, declared.text.line.LogLine.TheVariants.Wait}
+use Rattle.monk_logs.specs.LastLine.{has, last_behind, last_line}
 use Rattle.monk_logs.specs.Crossed.{begins, crossed_below, crosses, crossing, crossing_at, crossing_in, with_seat}
-use Rattle.monk_logs.specs.declared.{crossed.Crossed.Crossed, subject.Subject.TheVariants.Seat}
-use Rattle.monk_logs.specs.declared.text.line.LogLine.{LogLine}
-use Rattle.monk_logs.specs.declared.text.line.LogLine.TheVariants.{Wait}
-use Rattle.std.proofs.lemmas.Bool.Decides.{nat_tests}
 
 -- the lines before a line, and that line
 before_more : (log : List LogLine) (i : ℕ) (l : LogLine) → i < length log

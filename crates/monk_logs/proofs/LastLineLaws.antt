@@ -1,10 +1,9 @@
 -- The last line of a log after one more line
 use Rattle.std.proofs.Common.{◌≡◌, ℕ, suc, ◌+◌, ◌<◌, Bool, cond, List, [], ◌∷◌, ◌++◌, length, take, get_or}
 use Rattle.std.proofs.Common.{Option, Some, None, refl, sym, ap, ◌∙◌, arith, length-take}
-use Rattle.std.{specs.Option.option_or, proofs.lemmas.List.take_more}
-use Rattle.monk_logs.specs.LastLine.{has, last_behind, last_line}
+use Rattle.std.{specs.Option.option_or, proofs.lemmas.List.take_more, proofs.lemmas.Bool.Decides.nat_tests}
 use Rattle.monk_logs.specs.declared.{subject.Subject.Subject, text.line.LogLine.LogLine}
-use Rattle.std.proofs.lemmas.Bool.Decides.{nat_tests}
+use Rattle.monk_logs.specs.LastLine.{has, last_behind, last_line}
 
 or_first : (b : Bool) (n : ℕ) (x y : Option ℕ) → option_or (cond b (Some n) x) y ≡ cond b (Some n) (option_or x y)
 or_first b n x y = grind (arith, nat_tests)

@@ -1,9 +1,8 @@
 -- Cases of an operation's code, and what one operation adds to a count
 use Rattle.std.proofs.Common.{◌≡◌, ℕ, suc, zero, ◌+◌, ◌==◌, Bool, true, false, ◌&&◌, cond, List, ◌∷◌, arith}
-use Rattle.std.{specs.Prelude.nat_lt, proofs.lemmas.Bool.ne_eqb, proofs.lemmas.List.Sums.sum_by-cons}
+use Rattle.std.proofs.{lemmas.Bool.ne_eqb, lemmas.Bool.Decides.nat_tests, lemmas.List.Sums.sum_by-cons, Common.rules}
+use Rattle.std.specs.Prelude.{nat_lt}
 use Rattle.monk_object.specs.Runs.{Answered, is_done, times_done}
-use Rattle.std.proofs.lemmas.Bool.Decides.{nat_tests}
-use Rattle.std.proofs.Common.{rules}
 
 pub both : (a b : Bool) → (a && b) ≡ true → (a ≡ true) × (b ≡ true)
 both a b e = grind (arith, nat_tests)

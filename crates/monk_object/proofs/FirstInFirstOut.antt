@@ -1,12 +1,11 @@
 -- A buffer is first in, first out
 use Rattle.std.proofs.Common.{◌≡◌, ℕ, ◌+◌, ◌-◌, ◌<◌, ◌≤◌, ◌==◌, Bool, true, false, ◌&&◌, cond, List, [], ◌∷◌, ◌++◌}
+use Rattle.std.proofs.lemmas.{Bool.eqb-true, Bool.ne_eqb, Bool.lt-ltb, Bool.Decides.nat_tests, List.append-nil}
 use Rattle.std.proofs.Common.{length, drop, map, refl, arith, append_assoc, length-append}
-use Rattle.std.proofs.lemmas.{Bool.eqb-true, Bool.ne_eqb, Bool.lt-ltb, List.append-nil}
 use Rattle.std.specs.Prelude.{nat_lt}
 use Rattle.monk_object.specs.{Runs.Answered, Runs.state_after, Runs.answers_of, declared.op.Op.Op}
-use Rattle.monk_object.specs.Buffer.{PUT, TAKE, buffer_meaning, items_after, items_reply, take_reply}
 use Rattle.monk_object.specs.Laws.{IsFirstInFirstOut, items_put, items_taken}
-use Rattle.std.proofs.lemmas.Bool.Decides.{nat_tests}
+use Rattle.monk_object.specs.Buffer.{PUT, TAKE, buffer_meaning, items_after, items_reply, take_reply}
 
 -- from tests for a put, a take and room: the reply, the items after, and the items put and taken
 abbrev reply_by : Bool → Bool → Bool → List ℕ → ℕ

@@ -1,11 +1,10 @@
 -- The bits of flags are those of the last set that was done
 use Rattle.std.proofs.Common.{◌≡◌, ℕ, ◌^◌, ◌<◌, ◌==◌, Bool, true, false, ◌&&◌, cond, List, [], ◌∷◌, ◌++◌, arith}
-use Rattle.std.proofs.Common.{map, refl, ap, pow_pos}
-use Rattle.std.{specs.Prelude.nat_lt, proofs.lemmas.Bool.ltb-true}
+use Rattle.std.{proofs.Common.map, proofs.Common.refl, proofs.Common.ap, proofs.Common.pow_pos}
+use Rattle.std.{proofs.lemmas.Bool.ltb-true, proofs.lemmas.Bool.Decides.nat_tests, specs.Prelude.nat_lt}
 use Rattle.monk_object.{specs.Flags.SET, specs.Flags.flags_meaning, specs.Flags.flags_after, specs.Flags.flags_reply}
 use Rattle.monk_object.{specs.Laws.HoldsTheLastSet, specs.Laws.bits_set, specs.Runs.Answered, specs.Runs.state_after}
 use Rattle.monk_object.{specs.Runs.answers_of, specs.declared.op.Op.Op, proofs.Codes.both}
-use Rattle.std.proofs.lemmas.Bool.Decides.{nat_tests}
 
 -- from a state with these bits
 record Run (size bits : ℕ) (start : List ℕ) (ops : List Op) : Type 0 where

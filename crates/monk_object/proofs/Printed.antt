@@ -2,10 +2,9 @@
 use Rattle.std.proofs.Common.{◌≡◌, ℕ, ◌+◌, ◌<◌, Bool, cond, suc, List, [], ◌∷◌, ◌++◌, length, take, get_or}
 use Rattle.std.proofs.Common.{sym, ap, arith, ◌∙◌, append_assoc}
 use Rattle.std.specs.Prelude.{◌==◌, codes}
-use Rattle.std.proofs.lemmas.List.{append-nil, take_more}
+use Rattle.std.proofs.lemmas.{List.append-nil, List.take_more, Bool.Decides.nat_tests}
 use Rattle.std.specs.{Fmt.decimal, Int.bit_at, List.flat_map}
 use Rattle.monk_object.specs.InWords.{bits_below}
-use Rattle.std.proofs.lemmas.Bool.Decides.{nat_tests}
 
 one_more : {X : Type 0} (f : X → List ℕ) (xs : List X) (x : X) → flat_map f (xs ++ x ∷ []) ≡ flat_map f xs ++ f x
 one_more f [] x = append-nil (f x)

@@ -1,10 +1,9 @@
 -- The names in a list of JSON values
 use Rattle.std.proofs.Common.{◌≡◌, ap, List, [], ◌∷◌, ℕ, Option, Some, map, refl, arith}
-use Rattle.std.specs.Prelude.{unwrap_or}
-use Rattle.serde_json.specs.{Find.as_str, View.items_view, View.view, declared.value.Value.Value}
-use Rattle.serde_json.specs.Data.{Items, no_items}
+use Rattle.std.{specs.Prelude.unwrap_or, proofs.lemmas.Bool.Decides.nat_tests}
+use Rattle.serde_json.specs.{Find.as_str, declared.value.Value.Value, Data.Items, Data.no_items}
+use Rattle.serde_json.specs.View.{items_view, view}
 use Rattle.monk_page.specs.Told.{texts_of}
-use Rattle.std.proofs.lemmas.Bool.Decides.{nat_tests}
 
 -- the name that a value has
 abbrev pub text_in : Value → List ℕ

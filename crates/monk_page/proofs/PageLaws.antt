@@ -1,11 +1,9 @@
 -- The value of something that holds other data is the value of those data
 use Rattle.std.proofs.Common.{◌≡◌, Option, Some, None, option_map, refl, arith}
-use Rattle.std.proofs.lemmas.Simd.{map-map}
-use Rattle.monk_tell.specs.declared.{queues.Conditions.Conditions}
-use Rattle.monk_tell.specs.Told.{condition_lists}
-use Rattle.serde_json.specs.{Data.Data}
+use Rattle.std.proofs.lemmas.{Simd.map-map, Bool.Decides.nat_tests}
+use Rattle.monk_tell.specs.{declared.queues.Conditions.Conditions, Told.condition_lists}
+use Rattle.serde_json.specs.Data.{Data}
 use Rattle.monk_page.specs.Json.{list_json, numbers_json, option_json}
-use Rattle.std.proofs.lemmas.Bool.Decides.{nat_tests}
 
 -- the value of an option is the value of what it holds
 pub option_told : {X Y : Type 0} (f : Y → Data) (g : X → Y) (o : Option X)

@@ -2,7 +2,7 @@
 use Rattle.std.proofs.Common.{◌≡◌, ℕ, suc, ◌+◌, ◌≤◌, ◌==◌, ◌&&◌, ◌||◌, not, Bool, true, false, cond, Option, Some, None}
 use Rattle.std.proofs.Common.{List, [], ◌∷◌, ◌++◌, length, length-append, map, take, append-nil, append_assoc}
 use Rattle.std.proofs.Common.{refl, sym, ap, subst, ◌∙◌, ◌⊎◌, inl, inr, arith, eq-eqb}
-use Rattle.std.proofs.lemmas.Bool.{false≢true, eqb-true}
+use Rattle.std.proofs.lemmas.Bool.{false≢true, eqb-true, Decides.nat_tests}
 use Rattle.std.proofs.lemmas.List.{take-append-le, take_all, Elements.filter-append}
 use Rattle.std.specs.{Prelude.filter, Prelude.slice_get, List.list_any, Option.option_map_or}
 use Rattle.monk_history.proofs.PublicLaws.Meaning.{and_left, and_right, caller_unqueued, legal_front, legal_last}
@@ -10,16 +10,12 @@ use Rattle.monk_history.proofs.PublicLaws.Meaning.{legal_placed, length-events_o
 use Rattle.monk_history.proofs.PublicLaws.Meaning.{turn-push}
 use Rattle.monk_history.specs.Meaning.{Counts.events_of, Legal.IsLegal, Promises.ThePredicateHolds, Reasons.fits_turn}
 use Rattle.monk_history.specs.Meaning.{Standing.times, Standing.has_turn, Turn.turn, Turn.turn_by, Turn.is_inside}
-use Rattle.monk_history.specs.Meaning.Situation.{Situation, situation}
-use Rattle.monk_history.specs.Meaning.Monitor.{Monitor, data_of}
+use Rattle.monk_history.specs.Meaning.{Situation.Situation, Situation.situation, Monitor.Monitor, Monitor.data_of}
 use Rattle.monk_history.specs.Meaning.Events.{seat_of, next_of, is_stay, is_until, awaited_predicate}
 use Rattle.monk_history.specs.Meaning.Untils.{untils, chooses, waits_until, StaysWhereItHolds}
-use Rattle.monk_history.specs.declared.event.{From3.From3, From3.TheVariants.Until as FromUntil, Turn.TheVariants.Due}
-use Rattle.monk_history.specs.declared.event.Next.{Next}
-use Rattle.monk_history.specs.declared.event.Next.TheVariants.{Stay}
-use Rattle.monk_history.specs.declared.event.Event.{Event}
-use Rattle.monk_history.specs.declared.event.Event.TheVariants.{Until}
-use Rattle.monk_history.specs.declared.event.Event.TheVariants.{Resume}
+use Rattle.monk_history.specs.declared.event.{Turn.TheVariants.Due, Next.Next, Next.TheVariants.Stay}
+use Rattle.monk_history.specs.declared.event.From3.{From3, TheVariants.Until as FromUntil}
+use Rattle.monk_history.specs.declared.event.Event.{Event, TheVariants.Until, TheVariants.Resume}
 use Rattle.monk_kinds.specs.declared.mode.{Pick.Pick, Rules.Rules}
 use Rattle.monk_object.specs.Object.{Object}
 use Rattle.monk_floor.specs.View.{monitor_of}
@@ -29,7 +25,6 @@ use Rattle.monk_hall.specs.{AfterCalls.MatchAfter, Changes.source_from, Tokens.T
 use Rattle.monk_hall.specs.Calls.{HasEntered, HasReleased, HasStayed}
 use Rattle.monk_hall.specs.declared.after.After.{After, TheVariants.Active, TheVariants.Parked}
 use Rattle.monk_samples.specs.Styles.{Holds}
-use Rattle.std.proofs.lemmas.Bool.Decides.{nat_tests}
 
 -- the seats of these waits
 abbrev seats_in : List (ℕ × ℕ) → List ℕ

@@ -2,18 +2,16 @@
 use Rattle.std.proofs.Common.{◌≡◌, ℕ, zero, suc, ◌+◌, ◌*◌, Bool, false, cond}
 use Rattle.std.proofs.Common.{◌==◌, Option, Some, None, List, [], ◌∷◌, ◌++◌}
 use Rattle.std.proofs.Common.{refl, sym, ap, ◌∙◌, arith}
-use Rattle.std.proofs.lemmas.{List.Sums.sum_by-append, List.Sums.sum_by-cons}
+use Rattle.std.proofs.lemmas.{List.Sums.sum_by-append, List.Sums.sum_by-cons, Bool.Decides.nat_tests}
 use Rattle.std.specs.List.{sum_by}
 use Rattle.monk_kinds.specs.declared.mode.Rules.{Rules}
 use Rattle.monk_object.specs.{Object.Object, Runs.Answered, Runs.is_done, declared.op.Op.Op}
-use Rattle.monk_history.specs.Meaning.Acts.{acts_in}
-use Rattle.monk_history.specs.declared.event.Event.{Event}
+use Rattle.monk_history.specs.{Meaning.Acts.acts_in, declared.event.Event.Event}
 use Rattle.monk_hall.specs.{Tokens.Token, declared.setting.Setting.Setting}
 use Rattle.monk_samples.proofs.VisitLaws.{acts_append, calls_acts, calls_out_acts, paused_acts}
 use Rattle.monk_samples.specs.{Rounds.rounds_to, declared.end.End.TheVariants.Done}
 use Rattle.monk_samples.specs.Visits.{Plan, Guard, AreMisses, AreVisits, IsCertain, IsMiss, IsTry, IsVisit}
 use Rattle.monk_samples.specs.Trails.{Addition, HasCalled, calls_in, events_in, outside}
-use Rattle.std.proofs.lemmas.Bool.Decides.{nat_tests}
 
 -- what an operation of that code is worth, after it was done and as it is planned
 abbrev pub worth : ℕ → (Op → ℕ) → Answered → ℕ

@@ -1,25 +1,21 @@
 -- What stays the same for passes that meet, and what the history holds that their seats closed
 use Rattle.std.proofs.Common.{◌≡◌, ◌≢◌, ℕ, zero, suc, ◌+◌, ◌≤◌, Bool, true, List, [], ◌∷◌, ◌++◌, length, refl, sym, ap, subst, ◌∙◌, arith}
-use Rattle.std.proofs.Common.{append_assoc}
-use Rattle.std.proofs.lemmas.List.{Kept.AllPairs-cons, Sums.sum_by-append, Sums.sum_by-cons}
-use Rattle.std.proofs.lemmas.List.Elements.{All-cons, All-head, All-nil, All-tail}
+use Rattle.std.proofs.{Common.append_assoc, lemmas.List.Kept.AllPairs-cons, lemmas.List.Sums.sum_by-append}
+use Rattle.std.proofs.{lemmas.List.Sums.sum_by-cons, lemmas.List.Elements.All-cons, lemmas.List.Elements.All-head}
+use Rattle.std.proofs.{lemmas.List.Elements.All-nil, lemmas.List.Elements.All-tail, lemmas.Bool.Decides.nat_tests}
 use Rattle.std.specs.Prelude.{All, AllPairs, sum_by}
 use Rattle.atomic_table.specs.Seated.{TableId}
 use Rattle.monk_kinds.specs.declared.mode.Rules.{Rules}
 use Rattle.monk_object.specs.{Object.Object, Runs.Answered}
 use Rattle.monk_history.specs.Meaning.{Acts.acts_in, Counts.events_of}
 use Rattle.monk_history.specs.declared.event.{Event.Event, Event.TheVariants.Leave, Next.TheVariants.Entry, Turn.Turn}
-use Rattle.monk_world.specs.StepTable.{out_event}
-use Rattle.monk_world.specs.declared.source.Source.{Source}
-use Rattle.monk_hall.proofs.PublicLaws.{holds_sum}
-use Rattle.monk_hall.specs.{Floors.StartsWith, Records.opening_records, Tokens.House, Tokens.Token, Tokens.tokens}
-use Rattle.monk_hall.specs.Complete.{AreApart, HoldsOnly}
-use Rattle.monk_hall.specs.declared.{deed.Deed.Deed, setting.Setting.Setting}
+use Rattle.monk_world.specs.{StepTable.out_event, declared.source.Source.Source}
+use Rattle.monk_hall.{proofs.PublicLaws.holds_sum, specs.Floors.StartsWith, specs.Records.opening_records}
+use Rattle.monk_hall.{specs.Tokens.House, specs.Tokens.Token, specs.Tokens.tokens, specs.Complete.AreApart}
+use Rattle.monk_hall.{specs.Complete.HoldsOnly, specs.declared.deed.Deed.Deed, specs.declared.setting.Setting.Setting}
 use Rattle.monk_samples.proofs.{TrailLaws.starts_here, TrailLaws.starts_then, WholeLaws.of_event, WholeLaws.acts_worth}
-use Rattle.monk_samples.specs.{Crews.IsOf, Ends.HaveServed, Trails.is_coming}
-use Rattle.monk_samples.specs.{declared.scenario.Scenario.Scenario}
+use Rattle.monk_samples.specs.{Crews.IsOf, Ends.HaveServed, Trails.is_coming, declared.scenario.Scenario.Scenario}
 use Rattle.monk_samples.specs.Wholes.{IsSame, AreSame, HoldsOperationsOf, IsClosedBy, IsFirstSpent, IsLeftBy}
-use Rattle.std.proofs.lemmas.Bool.Decides.{nat_tests}
 
 pub same_pass : (p : Token) → IsSame p p
 same_pass p = record { hall = refl; seat = refl; setting = refl; mine = refl }

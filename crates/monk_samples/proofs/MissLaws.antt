@@ -1,8 +1,7 @@
 -- If no try misses, no act of a buffer is refused
 use Rattle.std.proofs.Common.{◌≡◌, ℕ, zero, suc, ◌+◌, ◌<◌, ◌/◌, ◌==◌, Bool, true, false, cond, nat_lt, Option, Some, None, List, [], ◌∷◌, ◌++◌}
 use Rattle.std.proofs.Common.{refl, ap, ◌∙◌, arith}
-use Rattle.std.proofs.lemmas.{List.Sums.sum_by-append}
-use Rattle.std.specs.List.{sum_by}
+use Rattle.std.{proofs.lemmas.List.Sums.sum_by-append, proofs.lemmas.Bool.Decides.nat_tests, specs.List.sum_by}
 use Rattle.atomic_table.specs.Seated.{TableId}
 use Rattle.monk_kinds.specs.declared.mode.Rules.{Rules}
 use Rattle.monk_object.specs.{Buffer.buffer_meaning, Object.Object, Runs.Answered, declared.op.Op.Op}
@@ -11,14 +10,13 @@ use Rattle.monk_hall.specs.{Records.opening_records, declared.setting.Setting.Se
 use Rattle.monk_hall.specs.Tokens.{House, Token, tokens}
 use Rattle.monk_samples.proofs.{SeatSums.over, VisitLaws.acts_append, WholeLaws.shares}
 use Rattle.monk_samples.proofs.DoneLaws.{own_acts, try_acts}
-use Rattle.monk_samples.specs.{Ends.HaveServed, Trails.Addition, Trails.HasCalled, Trails.events_in, Trails.outside}
-use Rattle.monk_samples.specs.{Members.puts_by, Members.takes_by, Samples.scenario_of, Wholes.HoldsOperationsOf}
-use Rattle.monk_samples.specs.Totals.{MissesNothing, missed_in}
-use Rattle.monk_samples.specs.Visits.{AreMisses, AreVisits, Guard, IsCertain, IsVisit, Misses, Plan}
-use Rattle.monk_samples.specs.Rounds.{round_of, rounds_of, rounds_to}
+use Rattle.monk_samples.specs.{Ends.HaveServed, Members.puts_by, Members.takes_by, Samples.scenario_of}
+use Rattle.monk_samples.specs.{Wholes.HoldsOperationsOf, Totals.MissesNothing, Totals.missed_in}
 use Rattle.monk_samples.specs.declared.{end.End.TheVariants.Done, sample.Sample.TheVariants.Buffer}
 use Rattle.monk_samples.specs.declared.manner.Manner.{Manner, TheVariants.Hasty, TheVariants.Patient}
-use Rattle.std.proofs.lemmas.Bool.Decides.{nat_tests}
+use Rattle.monk_samples.specs.Visits.{AreMisses, AreVisits, Guard, IsCertain, IsVisit, Misses, Plan}
+use Rattle.monk_samples.specs.Rounds.{round_of, rounds_of, rounds_to}
+use Rattle.monk_samples.specs.Trails.{Addition, HasCalled, events_in, outside}
 
 -- a refused act counts once
 abbrev refused : Answered → ℕ

@@ -1,22 +1,21 @@
 -- What a member does inside until its operation is done: it pauses, and it acts or leaves
 use Rattle.std.proofs.Common.{◌≡◌, ℕ, false, cond, Option, Some, None, List, [], ◌∷◌, ◌++◌}
 use Rattle.std.proofs.Common.{◌≤◌, refl, sym, ap, subst, ◌∙◌, inr, arith}
-use Rattle.std.proofs.Common.{append_assoc}
+use Rattle.std.proofs.{Common.append_assoc, lemmas.Bool.Decides.nat_tests}
 use Rattle.monk_kinds.specs.declared.mode.{Pick.TheVariants.Entry, Rules.Rules}
 use Rattle.monk_object.specs.{Object.Object, declared.op.Op.Op}
 use Rattle.monk_history.specs.{Meaning.Monitor.data_of, declared.event.Event.TheVariants.Act}
 use Rattle.monk_floor.specs.View.{monitor_of}
 use Rattle.monk_hall.specs.{Calls.HasDone, Layout.floor_of, declared.setting.Setting.Setting}
 use Rattle.monk_hall.specs.Tokens.{Token, Holder}
-use Rattle.monk_samples.proofs.ShortLaws.{less_than, needs_two, short_yet}
 use Rattle.monk_samples.proofs.TrailLaws.{called_none, called_then, did, replied}
+use Rattle.monk_samples.proofs.ShortLaws.{less_than, needs_two, short_yet}
 use Rattle.monk_samples.specs.Styles.{HasGivenUp, HasPaused, Holds, pause_call}
 use Rattle.monk_samples.specs.Visits.{Guard, AreFew, ArePauses, HasPausedFor, IsLeftWaiting, wish_of, IsUnready}
 use Rattle.monk_samples.specs.Visits.{HasTired, HasStayedOut, HasPausedUntil, HasActed, HasActedInHaste, HasLooked}
 use Rattle.monk_samples.specs.Visits.{Promises, hasty_guard, data_after, needed_yet}
-use Rattle.monk_samples.specs.declared.manner.Manner.{Manner, TheVariants.Patient, TheVariants.Hasty}
 use Rattle.monk_samples.specs.Trails.{Addition, Trail, HasCalled, inside, outside}
-use Rattle.std.proofs.lemmas.Bool.Decides.{nat_tests}
+use Rattle.monk_samples.specs.declared.manner.Manner.{Manner, TheVariants.Patient, TheVariants.Hasty}
 
 module _ (k : Rules) (o : Object) where
   pauses_then : (c : Setting) (s : ℕ) (w : Guard) (xs ys : List Addition) → ArePauses k o c s w xs

@@ -1,7 +1,7 @@
 -- The totals of a run are those of its seats and rounds
 use Rattle.std.proofs.Common.{◌≡◌, ℕ, suc, ◌+◌, ◌-◌, ◌*◌, ◌/◌, ◌≤◌, Bool, true, false, cond, List, [], ◌∷◌, ◌++◌, length}
 use Rattle.std.proofs.Common.{refl, sym, ap, ◌∙◌, arith, append-nil}
-use Rattle.std.proofs.lemmas.List.Sums.{sum_by-cons}
+use Rattle.std.proofs.lemmas.{List.Sums.sum_by-cons, Bool.Decides.nat_tests}
 use Rattle.std.specs.{List.sum_by, List.sum, List.count_by, Prelude.map, Prelude.filter}
 use Rattle.atomic_table.specs.Seated.{TableId}
 use Rattle.monk_kinds.specs.declared.mode.Rules.{Rules}
@@ -13,14 +13,13 @@ use Rattle.monk_history.specs.declared.event.Event.{Event}
 use Rattle.monk_hall.specs.{Records.opening_records, declared.setting.Setting.Setting}
 use Rattle.monk_hall.specs.Tokens.{House, Token, tokens}
 use Rattle.monk_samples.proofs.{DoneLaws.worth, DoneLaws.sum_to, WholeLaws.shares}
+use Rattle.monk_samples.proofs.SeatSums.{over, first_half, second_half, first_items, calls_all, visits_all, sum_is}
 use Rattle.monk_samples.proofs.ShareLaws.{once, item, puts_of, takes_of, items_of, reads_of, writes_of, calls_of}
 use Rattle.monk_samples.proofs.ShareLaws.{sits_of, departs_of}
-use Rattle.monk_samples.proofs.SeatSums.{over, first_half, second_half, first_items, calls_all, visits_all, sum_is}
 use Rattle.monk_samples.specs.{Ends.HaveServed, Rounds.HasServed, Samples.scenario_of, Wholes.HoldsOperationsOf}
-use Rattle.monk_samples.specs.Totals.{HasEnded, HasTotals, totals_of}
 use Rattle.monk_samples.specs.declared.{end.End.TheVariants.Done, manner.Manner.Manner, scenario.Scenario.Scenario}
 use Rattle.monk_samples.specs.declared.sample.Sample.TheVariants.{Buffer, Book, Shop}
-use Rattle.std.proofs.lemmas.Bool.Decides.{nat_tests}
+use Rattle.monk_samples.specs.Totals.{HasEnded, HasTotals, totals_of}
 
 -- the sum of the items put is the sum over the puts that were done, each with its item
 put_sum : (acts : List Answered) → sum (items_put acts) ≡ sum_by (worth PUT item) acts

@@ -1,20 +1,19 @@
 -- How a run ends, by the ends of its workers
 use Rattle.std.proofs.Common.{◌≡◌, ℕ, ◌<◌, ◌≤◌, inl, inr, Bool, All, List, [], ◌∷◌, length, sym, ap, subst, ◌∙◌, arith}
-use Rattle.std.proofs.lemmas.List.Elements.{All-cons, All-nil}
+use Rattle.std.proofs.lemmas.{List.Elements.All-cons, List.Elements.All-nil, Bool.Decides.nat_tests}
 use Rattle.atomic_table.specs.Seated.{TableId}
 use Rattle.monk_kinds.specs.declared.mode.Rules.{Rules}
 use Rattle.monk_object.specs.Names.{meaning_named}
 use Rattle.monk_history.specs.declared.event.Event.{Event}
-use Rattle.monk_hall.specs.{Tokens.House, Tokens.Token, Tokens.tokens, declared.setting.Setting.Setting}
-use Rattle.monk_hall.specs.Records.{first_view}
+use Rattle.monk_hall.specs.{declared.setting.Setting.Setting, Records.first_view}
+use Rattle.monk_hall.specs.Tokens.{House, Token, tokens}
 use Rattle.monk_samples.specs.declared.crew_fault.CrewFault.TheVariants as crew
 use Rattle.monk_samples.specs.{Crews.IsClosed, Crews.IsOf, Faults.run_fault_of, Samples.sample_object}
-use Rattle.monk_samples.specs.Wholes.{HoldsOperationsOf, IsFaultOfClosing, IsLeftBy}
+use Rattle.monk_samples.specs.Runs.{HasClosed, HasLeft, HasRun, HasStopped, IsFaultOfRun, run_setting}
 use Rattle.monk_samples.specs.Ends.{HaveServed, HasEndedFirst, IsFaultOfCrew}
 use Rattle.monk_samples.specs.declared.{crew_fault.CrewFault.CrewFault, scenario.Scenario.Scenario}
 use Rattle.monk_samples.specs.declared.end.End.{End, TheVariants.Tired, TheVariants.Late}
-use Rattle.monk_samples.specs.Runs.{HasClosed, HasLeft, HasRun, HasStopped, IsFaultOfRun, run_setting}
-use Rattle.std.proofs.lemmas.Bool.Decides.{nat_tests}
+use Rattle.monk_samples.specs.Wholes.{HoldsOperationsOf, IsFaultOfClosing, IsLeftBy}
 
 -- there is a pass
 pub some_pass : (z : TableId) (c : Setting) → 2 ≤ c.seats → 0 < length (tokens z (first_view c))

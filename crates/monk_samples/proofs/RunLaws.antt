@@ -2,19 +2,18 @@
 use Rattle.std.proofs.Common.{◌≡◌, ℕ, zero, suc, ◌+◌, ◌*◌, ◌^◌, ◌≤◌, true, cond, All, Result, Ok, Err}
 use Rattle.std.proofs.Common.{IfErr, IfOk, List, [], ◌∷◌, ◌++◌, map, length, refl, sym, ap, subst}
 use Rattle.std.proofs.Common.{◌∙◌, arith}
-use Rattle.std.proofs.lemmas.Bool.{false≢true}
+use Rattle.std.proofs.lemmas.Bool.{false≢true, Decides.nat_tests}
 use Rattle.std.proofs.lemmas.List.Elements.{All-cons, All-head, All-nil, All-push, All-rest, All-same}
 use Rattle.std.specs.Prelude.{IsTrue}
 use Rattle.atomic_table.specs.Seated.{TableId}
-use Rattle.monk_kinds.specs.Names.{rules_named}
-use Rattle.monk_kinds.specs.declared.name.KindName.{KindName}
-use Rattle.monk_kinds.specs.declared.mode.{Rules.Rules, Mode.Mode, Mode.TheVariants.Blocking}
-use Rattle.monk_kinds.specs.declared.mode.{Mode.TheVariants.NonBlocking, Mode.TheVariants.QuasiBlocking}
-use Rattle.monk_kinds.specs.declared.mode.{Mode.TheVariants.ImmediateReturn, Mode.TheVariants.Automatic}
+use Rattle.monk_kinds.specs.{Names.rules_named, declared.name.KindName.KindName, declared.mode.Rules.Rules}
+use Rattle.monk_kinds.specs.{declared.mode.Mode.Mode, declared.mode.Mode.TheVariants.Blocking}
+use Rattle.monk_kinds.specs.{declared.mode.Mode.TheVariants.NonBlocking, declared.mode.Mode.TheVariants.QuasiBlocking}
+use Rattle.monk_kinds.specs.{declared.mode.Mode.TheVariants.ImmediateReturn, declared.mode.Mode.TheVariants.Automatic}
 use Rattle.monk_history.proofs.PublicLaws.Meaning.{in_order, excludes, serves_each}
-use Rattle.monk_history.specs.{Text.Heading, Text.is_writable, declared.event.Event.Event}
-use Rattle.monk_history.specs.Meaning.{Events.has_conditions, Legal.IsLegal, Named.named_monitor}
-use Rattle.monk_history.specs.Meaning.Monitor.{monitor, data_of}
+use Rattle.monk_history.specs.{declared.event.Event.Event, Meaning.Events.has_conditions, Meaning.Legal.IsLegal}
+use Rattle.monk_history.specs.{Meaning.Named.named_monitor, Meaning.Monitor.monitor, Meaning.Monitor.data_of}
+use Rattle.monk_history.specs.Text.{Heading, is_writable}
 use Rattle.monk_hall.specs.{Records.opening_records, declared.setting.Setting.Setting, Closing.IsEnded, Layout.floor_of}
 use Rattle.monk_hall.specs.Tokens.{House, Token, Holder, tokens}
 use Rattle.monk_object.specs.{Names.meaning_named, Names.opening_named, Object.Object}
@@ -22,9 +21,8 @@ use Rattle.monk_floor.specs.View.{FloorView, monitor_of}
 use Rattle.monk_samples.specs.{Crews.IsReady, Crews.AreReady, Crews.IsClosed, Totals.totals_of, Styles.Offers}
 use Rattle.monk_samples.specs.Samples.{sample_object, size_in, conds_of, budget_of, run_heading, run_monitor, KeepsLaw}
 use Rattle.monk_samples.specs.Samples.{IsHistoryOf, IsOfFirstVersion, IsOutcome}
-use Rattle.monk_samples.specs.declared.sample.Sample.{Sample, TheVariants.Buffer, TheVariants.Book, TheVariants.Shop}
 use Rattle.monk_samples.specs.declared.scenario.Scenario.{Scenario}
-use Rattle.std.proofs.lemmas.Bool.Decides.{nat_tests}
+use Rattle.monk_samples.specs.declared.sample.Sample.{Sample, TheVariants.Buffer, TheVariants.Book, TheVariants.Shop}
 
 pub one_more : {X : Type 0} (xs ys : List X) (x : X) (P : X → Type 0) → ys ≡ xs ++ x ∷ [] → All P xs → P x → All P ys
 one_more xs ys x P e h p = All-same P ys (xs ++ x ∷ []) e (All-push P xs x h p)

@@ -1,10 +1,9 @@
 -- Sums over the seats of a run
 use Rattle.std.proofs.Common.{◌≡◌, ℕ, zero, suc, ◌+◌, ◌-◌, ◌*◌, ◌/◌, ◌<◌, ◌≤◌, false, cond, nat_lt, nat_eq}
 use Rattle.std.proofs.Common.{sym, ap, ◌∙◌, arith}
-use Rattle.std.proofs.lemmas.Bool.{lt-ltb}
+use Rattle.std.proofs.lemmas.Bool.{lt-ltb, Decides.nat_tests}
 use Rattle.monk_samples.{specs.Rounds.rounds_of, specs.declared.sample.Sample.TheVariants.Buffer}
 use Rattle.monk_samples.{specs.declared.sample.Sample.TheVariants.Shop, proofs.DoneLaws.sum_to}
-use Rattle.std.proofs.lemmas.Bool.Decides.{nat_tests}
 
 -- the sum over n seats from seat i on
 abbrev pub over : (ℕ → ℕ) → ℕ → ℕ → ℕ

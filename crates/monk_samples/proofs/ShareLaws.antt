@@ -1,7 +1,7 @@
 -- What each seat of a run is worth to its totals
 use Rattle.std.proofs.Common.{◌≡◌, ℕ, ◌*◌, ◌/◌, Bool, true, false, cond, nat_lt, nat_eq, List, [], ◌∷◌}
 use Rattle.std.proofs.Common.{refl, sym, ap, subst, ◌∙◌, arith}
-use Rattle.std.specs.List.{sum_by}
+use Rattle.std.{specs.List.sum_by, proofs.lemmas.Bool.Decides.nat_tests}
 use Rattle.monk_kinds.specs.declared.mode.Rules.{Rules}
 use Rattle.monk_object.specs.{Object.Object, Buffer.PUT, Buffer.TAKE, Book.START_READ, Book.START_WRITE, Shop.SIT}
 use Rattle.monk_object.specs.{Shop.CALL, Shop.DEPART, declared.op.Op.Op}
@@ -12,10 +12,9 @@ use Rattle.monk_samples.proofs.DoneLaws.{sure_rounds}
 use Rattle.monk_samples.specs.{Samples.scenario_of, Visits.Plan}
 use Rattle.monk_samples.specs.Members.{begins_to_read, ends_to_read, begins_to_write, ends_to_write, puts_by, takes_by}
 use Rattle.monk_samples.specs.Members.{sits, departs, calls, finishes}
-use Rattle.monk_samples.specs.Rounds.{HasServed, round_of, rounds_of, rounds_to}
 use Rattle.monk_samples.specs.declared.{end.End.TheVariants.Done, scenario.Scenario.Scenario, manner.Manner.Manner}
 use Rattle.monk_samples.specs.declared.sample.Sample.TheVariants.{Buffer, Book, Shop}
-use Rattle.std.proofs.lemmas.Bool.Decides.{nat_tests}
+use Rattle.monk_samples.specs.Rounds.{HasServed, round_of, rounds_of, rounds_to}
 
 -- each operation counts once, and an item counts as its number
 abbrev pub once : Op → ℕ

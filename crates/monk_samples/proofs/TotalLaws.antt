@@ -1,13 +1,12 @@
 -- The totals, with one more event
 use Rattle.std.proofs.Common.{◌≡◌, ℕ, ◌+◌, ◌-◌, ◌≤◌, ◌<◌, List, [], ◌∷◌, ◌++◌, length, take, drop, subst}
 use Rattle.std.proofs.Common.{append-nil, slice_index_or, ap, ◌∙◌, arith}
+use Rattle.std.proofs.lemmas.{Grind.flat_map-append, Bool.Decides.nat_tests}
 use Rattle.std.proofs.lemmas.List.{map-append, take_more, take-append-drop, Elements.filter-append, Sums.sum_by-append}
-use Rattle.std.proofs.lemmas.Grind.{flat_map-append}
 use Rattle.std.specs.Prelude.{sum}
 use Rattle.monk_object.specs.{Laws.items_taken, Runs.Answered}
 use Rattle.monk_history.specs.{Meaning.Acts.act_of, Meaning.Acts.acts_in, declared.event.Event.Event}
 use Rattle.monk_samples.specs.Totals.{sum_taken}
-use Rattle.std.proofs.lemmas.Bool.Decides.{nat_tests}
 
 last_act : (e : Event) → act_of e ++ [] ≡ act_of e
 last_act e = append-nil (act_of e)

@@ -1,6 +1,7 @@
 -- How the steps of a seat add up to a longer trail
 use Rattle.std.proofs.Common.{◌≡◌, ℕ, Bool, false, Some, List, [], ◌∷◌, ◌++◌, append-nil, append_assoc, refl, sym, ap, subst, ◌∙◌}
-use Rattle.std.proofs.lemmas.{Bool.eqb-true, Grind.flat_map-append, List.map-append}
+use Rattle.std.proofs.lemmas.{Bool.eqb-true, Bool.Decides.nat_tests, Grind.flat_map-append, List.map-append}
+use Rattle.std.proofs.Common.{arith}
 use Rattle.monk_kinds.specs.declared.mode.{Pick.Pick, Rules.Rules}
 use Rattle.monk_object.specs.{Object.Object, declared.op.Op.Op}
 use Rattle.monk_history.proofs.PublicLaws.Meaning.{legal_last}
@@ -9,16 +10,12 @@ use Rattle.monk_history.specs.Meaning.Release.{with_next, choice_of}
 use Rattle.monk_history.specs.declared.event.{Next.Next, Next.TheVariants.Stay, Turn.Turn}
 use Rattle.monk_history.specs.declared.event.Event.{Event, TheVariants.Act, TheVariants.SignalAll}
 use Rattle.monk_floor.specs.View.{FloorView, monitor_of, stands_of}
-use Rattle.monk_world.specs.StepTable.{out_event}
-use Rattle.monk_world.specs.declared.source.Source.{Source}
-use Rattle.monk_world.specs.declared.home.Home.{Home}
+use Rattle.monk_world.specs.{StepTable.out_event, declared.source.Source.Source, declared.home.Home.Home}
 use Rattle.monk_hall.specs.{Changes.source_from, Floors.StartsWith, Layout.floor_of, Tokens.Token, Tokens.Holder}
 use Rattle.monk_hall.specs.Calls.{HasArrived, HasEntered, HasReleased, HasStayed, HasDone, is_entry_known}
 use Rattle.monk_samples.specs.Asked.{IsCall}
-use Rattle.monk_samples.specs.Trails.{Trail, Addition, Went, HasCalled, AreBetween, after, call_in, calls_in}
-use Rattle.monk_samples.specs.Trails.{inside, outside, is_coming}
-use Rattle.std.proofs.lemmas.Bool.Decides.{nat_tests}
-use Rattle.std.proofs.Common.{arith}
+use Rattle.monk_samples.specs.Trails.{Trail, Addition, Went, HasCalled, AreBetween, after, call_in, calls_in, inside}
+use Rattle.monk_samples.specs.Trails.{outside, is_coming}
 
 pub starts_here : (a : List Event) → StartsWith a a
 starts_here a = ([], sym (append-nil a))

@@ -1,26 +1,23 @@
 -- What becomes of a member's visit
 use Rattle.std.proofs.Common.{◌≡◌, ℕ, Bool, true, false, cond, Option, Some, None, List, [], ◌∷◌, ◌++◌, arith}
 use Rattle.std.proofs.Common.{refl, sym, ap, subst, ◌∙◌, inl, inr}
-use Rattle.std.proofs.{Common.append-nil, Common.append_assoc, lemmas.Grind.flat_map-append, lemmas.List.map-append}
+use Rattle.std.proofs.lemmas.{Grind.flat_map-append, List.map-append, Bool.Decides.nat_tests}
+use Rattle.std.proofs.Common.{append-nil, append_assoc}
 use Rattle.monk_kinds.specs.declared.mode.{Pick.Pick, Pick.TheVariants.Waiter, Rules.Rules}
 use Rattle.monk_object.specs.{Object.Object, declared.op.Op.Op}
-use Rattle.monk_history.specs.Meaning.{Acts.act_of, Acts.acts_in, Release.with_next}
-use Rattle.monk_history.specs.Meaning.Events.{has_conditions}
+use Rattle.monk_history.specs.Meaning.{Acts.act_of, Acts.acts_in, Release.with_next, Events.has_conditions}
 use Rattle.monk_history.specs.declared.event.Next.TheVariants.{Stay}
-use Rattle.monk_history.specs.declared.event.Event.{Event}
-use Rattle.monk_history.specs.declared.event.Event.TheVariants.{Leave, Wait, Until}
+use Rattle.monk_history.specs.declared.event.Event.{Event, TheVariants.Leave, TheVariants.Wait, TheVariants.Until}
 use Rattle.monk_hall.specs.{Tokens.Token, Tokens.Holder, declared.setting.Setting.Setting}
 use Rattle.monk_samples.proofs.{ShortLaws.short_out, TrailLaws.called_none, TrailLaws.called_then}
-use Rattle.monk_samples.specs.Styles.{HasFinished, HasGoneOut, pause_call, way_out}
 use Rattle.monk_samples.specs.Visits.{Guard, Plan, ArePauses, HasPausedFor, IsCertain, AreMisses, HasMissed, HasTried}
 use Rattle.monk_samples.specs.Visits.{IsTried, IsVisitTo, Misses, MissesIn, wish_in, wish_of, IsUnready, AreVisits}
-use Rattle.monk_samples.specs.Visits.{HasVisited, HasTired, HasActed, WayOut, Signals}
-use Rattle.monk_samples.specs.Visits.{calls_out}
+use Rattle.monk_samples.specs.Visits.{HasVisited, HasTired, HasActed, WayOut, Signals, calls_out}
 use Rattle.monk_samples.specs.Trails.{Addition, Trail, events_in, inside, outside}
-use Rattle.monk_samples.specs.Asked.{AreCalls, IsCall}
+use Rattle.monk_samples.specs.Styles.{HasFinished, HasGoneOut, pause_call, way_out}
 use Rattle.monk_samples.specs.declared.end.End.{End, TheVariants.Done, TheVariants.Tired, TheVariants.Late}
 use Rattle.monk_samples.specs.declared.manner.Manner.{Manner, TheVariants.Patient, TheVariants.Hasty}
-use Rattle.std.proofs.lemmas.Bool.Decides.{nat_tests}
+use Rattle.monk_samples.specs.Asked.{AreCalls, IsCall}
 
 module _ (k : Rules) (o : Object) where
   -- a call that does no operation leaves none

@@ -2,7 +2,7 @@
 use Rattle.std.proofs.Common.{◌≡◌, ℕ, Bool, true, false, cond, not, List, [], ◌∷◌, ◌++◌, take, map, Some}
 use Rattle.std.proofs.Common.{refl, sym, subst, arith, ap, ◌∙◌}
 use Rattle.std.specs.Prelude.{◌==◌, is_some, filter, zero, suc}
-use Rattle.std.proofs.lemmas.Bool.{eqb-true}
+use Rattle.std.proofs.lemmas.Bool.{eqb-true, Decides.nat_tests}
 use Rattle.std.proofs.lemmas.List.Elements.{All-contains, Contains-append_left, Contains-append_right, filter_passes}
 use Rattle.std.specs.List.{Contains}
 use Rattle.monk_kinds.specs.declared.mode.Rules.{Rules}
@@ -10,13 +10,12 @@ use Rattle.monk_object.specs.Object.{Object}
 use Rattle.monk_history.specs.declared.event.Next.TheVariants as next
 use Rattle.monk_history.proofs.PublicLaws.Meaning.{and_left, and_right}
 use Rattle.monk_history.specs.Meaning.{Release.with_next, Situation.Situation}
+use Rattle.monk_history.specs.Meaning.Events.{has_conditions, next_of, seat_of, steps_back, is_stay}
 use Rattle.monk_history.specs.Meaning.Choice.{Queues, queues_at, is_front, is_permitted, may_choose, may_signal}
 use Rattle.monk_history.specs.Meaning.Choice.{must_stay}
-use Rattle.monk_history.specs.Meaning.Events.{has_conditions, next_of, seat_of, steps_back, is_stay}
 use Rattle.monk_history.specs.declared.event.{Event.Event, Next.Next}
 use Rattle.monk_audit.specs.Settled.{permits}
 use Rattle.monk_tell.specs.{Permitted.candidates, Told.chosen_at}
-use Rattle.std.proofs.lemmas.Bool.Decides.{nat_tests}
 
 -- ---- elements
 

@@ -1,8 +1,8 @@
 -- One more item that a loop has gone through
 use Rattle.std.proofs.Common.{◌≡◌, ℕ, ◌+◌, ◌<◌, Bool, cond, not, List, [], ◌∷◌}
 use Rattle.std.proofs.Common.{◌++◌, length, map, take, get_or, ap, sym, arith, refl, ◌∙◌}
-use Rattle.std.proofs.lemmas.List.{length-map, map-append, take_more, Elements.filter-append}
-use Rattle.std.proofs.lemmas.List.FromFn.{map-range_with_len_more}
+use Rattle.std.proofs.lemmas.{List.length-map, List.map-append, List.take_more, List.Elements.filter-append}
+use Rattle.std.proofs.lemmas.{List.FromFn.map-range_with_len_more, Bool.Decides.nat_tests}
 use Rattle.std.specs.{List.position, List.position_or_len, Prelude.filter, Prelude.is_none, Prelude.slice_get}
 use Rattle.monk_kinds.specs.declared.mode.Rules.{Rules}
 use Rattle.monk_object.specs.Object.{Object}
@@ -11,7 +11,6 @@ use Rattle.monk_history.specs.Meaning.{Signallers.is_empty, Untils.ready_of}
 use Rattle.monk_audit.specs.{Replay.has, Settled.permits}
 use Rattle.monk_tell.specs.{Cause.conditions_below, Cause.waits_at, Told.condition_lists}
 use Rattle.monk_tell.specs.declared.{lists.SeatList.SeatList, queues.Conditions.Conditions}
-use Rattle.std.proofs.lemmas.Bool.Decides.{nat_tests}
 
 abbrev seats_of : SeatList → List ℕ
 seats_of s = s.0.items

@@ -1,24 +1,22 @@
 -- The steps of a legal history, with one more event
 use Rattle.std.proofs.Common.{◌≡◌, ℕ, ◌+◌, ◌-◌, ◌<◌, ◌≤◌, Bool, cond, List, [], ◌∷◌, ◌++◌}
 use Rattle.std.proofs.Common.{sym, ap, subst, arith, ◌∙◌}
-use Rattle.std.proofs.Common.{length, map, take, get_or}
-use Rattle.std.proofs.lemmas.{Bool.ne_eqb, Option.slice_get_within}
+use Rattle.std.proofs.lemmas.{Bool.ne_eqb, Bool.Decides.nat_tests, Option.slice_get_within}
 use Rattle.std.proofs.lemmas.List.{get_or-take, length-take-le, map-append, take-take, FromFn.map-range_with_len_more}
+use Rattle.std.proofs.Common.{length, map, take, get_or}
 use Rattle.std.specs.List.{range_with_len}
 use Rattle.monk_kinds.specs.{Names.rules_named, declared.mode.Rules.Rules}
 use Rattle.monk_object.specs.{Names.meaning_named, Names.opening_named, Object.Object}
-use Rattle.monk_history.specs.Meaning.{Named.named_monitor, Legal.IsLegal, Reasons.reason_in, Reasons.reason_of}
-use Rattle.monk_history.specs.Meaning.{Situation.Situation, Situation.situation, Step.after}
-use Rattle.monk_history.specs.Meaning.Monitor.{Monitor, monitor}
+use Rattle.monk_history.specs.{Meaning.Named.named_monitor, Meaning.Legal.IsLegal, Meaning.Reasons.reason_in}
+use Rattle.monk_history.specs.{Meaning.Reasons.reason_of, Meaning.Situation.Situation, Meaning.Situation.situation}
+use Rattle.monk_history.specs.{Meaning.Step.after, Meaning.Monitor.Monitor, Meaning.Monitor.monitor, Text.Heading}
 use Rattle.monk_history.specs.declared.event.{Event.Event, Event.TheVariants.Enter, Via.TheVariants.Free}
-use Rattle.monk_history.specs.Text.{Heading}
 use Rattle.monk_audit.proofs.PublicLaws.{is_verdict, legal_take, no_reason, stands_more}
-use Rattle.monk_audit.specs.Verdict.{IsVerdict, verdict_of}
 use Rattle.monk_audit.specs.declared.verdict.Verdict.{Verdict, TheVariants.Legal, TheVariants.Forbidden}
+use Rattle.monk_audit.specs.Verdict.{IsVerdict, verdict_of}
 use Rattle.monk_tell.proofs.TellLaws.{reason_opening}
 use Rattle.monk_tell.specs.{Told.allowed_events, declared.step.Step.Step}
 use Rattle.monk_tell.specs.Steps.{ShownStep, event_step, opening_step, step_after, step_by, step_of}
-use Rattle.std.proofs.lemmas.Bool.Decides.{nat_tests}
 
 -- there are `n` events, and they are legal
 allowed_there : (m : Monitor) (es : List Event) (v : Verdict) (n : ℕ) → IsVerdict m es v → n ≤ allowed_events v

@@ -1,21 +1,20 @@
 -- What a reason says about an event, and a first fault about a history
 use Rattle.std.proofs.Common.{◌≡◌, ◌≢◌, ℕ, Bool, true, cond, not, List, []}
 use Rattle.std.proofs.Common.{◌⊎◌, ◌≤◌, ◌<◌, ◌-◌, get_or, length, refl, sym, take, ap, arith, ◌∙◌}
-use Rattle.std.proofs.lemmas.Option.{get_or_from_slice_get, slice_get_within}
+use Rattle.std.proofs.lemmas.{Option.get_or_from_slice_get, Option.slice_get_within, Bool.Decides.nat_tests}
 use Rattle.monk_kinds.specs.{declared.mode.Rules.Rules, declared.name.KindName.KindName, Names.rules_named}
 use Rattle.monk_object.specs.{Object.Object, Names.meaning_named}
 use Rattle.monk_history.proofs.PublicLaws.Meaning.{and_right}
-use Rattle.monk_history.specs.Text.{Heading}
 use Rattle.monk_history.specs.Meaning.{Legal.IsFirstFault, Events.seat_of, Events.via_of, Monitor.Monitor}
 use Rattle.monk_history.specs.Meaning.{Monitor.monitor, Situation.Situation, Situation.situation, Named.named_monitor}
 use Rattle.monk_history.specs.Meaning.Reasons.{fits_object, is_in_range, reason_in}
 use Rattle.monk_history.specs.declared.event.{Event.Event, Event.TheVariants.Enter, Via.TheVariants.Free}
+use Rattle.monk_history.specs.Text.{Heading}
 use Rattle.monk_audit.specs.declared.reason.Reason.TheVariants as reasons
 use Rattle.monk_audit.proofs.PublicLaws.{is_verdict}
 use Rattle.monk_audit.specs.{declared.verdict.Verdict.Verdict, declared.verdict.Verdict.TheVariants.Forbidden}
 use Rattle.monk_audit.specs.{declared.reason.Reason.Reason, Reasons.number_of, Verdict.verdict_of}
 use Rattle.monk_tell.specs.{Cause.early_cause, Cause.no_entry, declared.why.Why.Why, declared.why.Why.TheVariants.Turn}
-use Rattle.std.proofs.lemmas.Bool.Decides.{nat_tests}
 
 passed_first : (b : Bool) (n k : ℕ) → cond (not b) 1 n ≡ k → k ≢ 1 → b ≡ true
 passed_first b n k h other = grind (arith, nat_tests)

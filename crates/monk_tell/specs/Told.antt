@@ -7,19 +7,18 @@ use Rattle.monk_kinds.specs.declared.{mode.Mode.TheVariants.QuasiBlocking, mode.
 use Rattle.monk_kinds.specs.declared.{mode.Mode.TheVariants.Automatic, mode.Rules.Rules, name.KindName.KindName}
 use Rattle.monk_object.specs.{Object.Object, declared.name.ObjectName.ObjectName}
 use Rattle.monk_history.specs.Meaning.{Acts.refused_steps, Monitor.Monitor, Named.named_monitor, Untils.ready_of}
-use Rattle.monk_history.specs.Meaning.Situation.{Situation, situation}
 use Rattle.monk_history.specs.Meaning.Choice.{Queues as Lined, must_stay, queues_at}
+use Rattle.monk_history.specs.Meaning.Situation.{Situation, situation}
 use Rattle.monk_history.specs.declared.event.{Via.TheVariants.Free, From3.From3, Next.Next, Turn.Turn}
 use Rattle.monk_history.specs.declared.event.Event.{Event, TheVariants.Enter}
 use Rattle.monk_history.specs.Text.{Heading}
-use Rattle.monk_audit.specs.Verdict.{verdict_of}
 use Rattle.monk_audit.specs.declared.verdict.Verdict.{Verdict, TheVariants.Legal, TheVariants.Forbidden}
-use Rattle.monk_tell.specs.Cause.{cause, conditions_below, own_reply}
+use Rattle.monk_audit.specs.Verdict.{verdict_of}
 use Rattle.monk_tell.specs.declared.{forbidden.ForbiddenEvent.ForbiddenEvent, choice.Choice.Choice, lines.Lines.Lines}
 use Rattle.monk_tell.specs.declared.{refused.Refused.Refused, standing.Standing.Standing, telling.Telling.Telling}
-use Rattle.monk_tell.specs.declared.{why.Why.Why}
-use Rattle.monk_tell.specs.declared.queues.{Conditions.Conditions, QueueLists.QueueLists}
+use Rattle.monk_tell.specs.declared.{why.Why.Why, queues.Conditions.Conditions, queues.QueueLists.QueueLists}
 use Rattle.monk_tell.specs.Permitted.{fronts, permitted_nexts}
+use Rattle.monk_tell.specs.Cause.{cause, conditions_below, own_reply}
 
 -- ---- the data, as lists
 

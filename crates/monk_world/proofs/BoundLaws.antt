@@ -2,15 +2,13 @@
 use Rattle.std.proofs.Common.{◌≡◌, ◌≢◌, ℕ, zero, suc, ◌+◌, ◌<◌, ◌≤◌, Bool, List, [], ◌∷◌}
 use Rattle.std.proofs.Common.{◌++◌, length, map, ⊎_elim, sym, refl, ap, ◌∙◌, subst, inl, inr, arith, eq-eqb}
 use Rattle.std.proofs.{Common.length-append, Math.Nat.mul-le-mul_right}
-use Rattle.std.proofs.lemmas.Bool.{cases_lt, Decides.eqb_tells}
+use Rattle.std.proofs.lemmas.Bool.{cases_lt, Decides.eqb_tells, Decides.nat_tests}
 use Rattle.monk_history.proofs.PublicLaws.Meaning.{total_le, length_total, length-events_of, length-events_of-push}
 use Rattle.monk_history.specs.Meaning.{Counts.events_of, Counts.left_of, Events.seat_of, Standing.times}
 use Rattle.monk_history.specs.declared.event.Event.{Event}
 use Rattle.monk_world.proofs.UpdateLaws.{at_update, update_here, update_else}
-use Rattle.monk_world.specs.{Update.update, State.State, State.with_event, World.World}
+use Rattle.monk_world.specs.{Update.update, State.State, State.with_event, World.World, declared.place.Place.Place}
 use Rattle.monk_world.specs.Kept.{comes_in, comes_back, sum_below, IsBounded}
-use Rattle.monk_world.specs.declared.place.Place.{Place}
-use Rattle.std.proofs.lemmas.Bool.Decides.{nat_tests}
 
 -- a sum where one number changes
 module _ {X : Type 0} (g : X → ℕ) (at : ℕ → X) (i : ℕ) (x : X) where

@@ -1,11 +1,11 @@
 -- A step that is carried out keeps what a world keeps
 use Rattle.std.proofs.Common.{◌≡◌, ℕ, ◌+◌, ◌%◌, ◌==◌, ◌<◌, ◌≤◌, cond, Bool, true, false, length, sym, refl, ap, ◌∙◌, subst, arith}
-use Rattle.std.specs.Prelude.{Option, Some, None}
+use Rattle.std.{specs.Prelude.Option, specs.Prelude.Some, specs.Prelude.None, proofs.lemmas.Bool.Decides.nat_tests}
 use Rattle.monk_kinds.specs.{Kind.IsKind, declared.mode.Rules.Rules}
 use Rattle.monk_object.specs.Object.{Object}
 use Rattle.monk_history.specs.declared.event.Next.TheVariants as next
-use Rattle.monk_history.specs.Meaning.{Events.seat_of, Events.is_stay, Monitor.data_of, Turn.turn}
-use Rattle.monk_history.specs.Meaning.Counts.{events_of, left_of}
+use Rattle.monk_history.specs.Meaning.{Monitor.data_of, Turn.turn, Counts.events_of, Counts.left_of}
+use Rattle.monk_history.specs.Meaning.Events.{seat_of, is_stay}
 use Rattle.monk_history.specs.declared.event.{Next.Next, Turn.Turn}
 use Rattle.monk_history.specs.declared.event.Event.{Event}
 use Rattle.monk_history.specs.declared.event.Event.TheVariants.{Act, Leave, Wait, Signal, SignalLeave, Until, SignalAll}
@@ -16,19 +16,16 @@ use Rattle.monk_world.specs.declared.home.Home.TheVariants as home
 use Rattle.monk_world.proofs.{UpdateLaws.update_same, SoundSteps.step_is_sound}
 use Rattle.monk_world.proofs.BoundLaws.{bounded_words, bounded_floor, count_stays, count_grows, count_looks, no_less}
 use Rattle.monk_world.specs.{Places.place_of, Update.update, Right.Whereabouts, State.State, State.with_event}
+use Rattle.monk_world.specs.{Kept.comes_in, Kept.comes_back, Kept.IsBounded, Kept.IsKept, Sound.IsSound, Sound.left_at}
+use Rattle.monk_world.specs.Steps.{place_after_arrive, place_after_ticket_look, place_after_seat_look}
+use Rattle.monk_world.specs.Steps.{count_after_seat_look, place_after_drop, after_arrive, after_seat_look}
+use Rattle.monk_world.specs.Steps.{after_floor_out, after_floor_in, after_drop, after_ticket_grant, after_seat_grant}
 use Rattle.monk_world.specs.StepTable.{call_of, is_call_in_range, is_call_offered, may_be_told, left_for, refusal}
 use Rattle.monk_world.specs.StepTable.{release_next, out_event, IsDone, IsAnswered}
-use Rattle.monk_world.specs.Steps.{place_after_arrive, place_after_ticket_look, place_after_seat_look}
-use Rattle.monk_world.specs.Steps.{count_after_seat_look, place_after_drop, after_arrive}
-use Rattle.monk_world.specs.Steps.{after_seat_look, after_floor_out, after_floor_in, after_drop, after_ticket_grant}
-use Rattle.monk_world.specs.Steps.{after_seat_grant}
 use Rattle.monk_world.specs.declared.{answer.Answer.Answer, command.Command.Command, home.Home.Home}
+use Rattle.monk_world.specs.declared.source.Source.{Source, TheVariants.Free}
 use Rattle.monk_world.specs.declared.place.Place.{Place}
 use Rattle.monk_world.specs.declared.place.Place.TheVariants.{Idle, Ticket, Due, Active, Back, Passing, Inner}
-use Rattle.monk_world.specs.declared.source.Source.{Source, TheVariants.Free}
-use Rattle.monk_world.specs.Kept.{comes_in, comes_back, IsBounded, IsKept}
-use Rattle.monk_world.specs.Sound.{IsSound, left_at}
-use Rattle.std.proofs.lemmas.Bool.Decides.{nat_tests}
 
 -- what holds if no refusal applies
 pub record IsReady (k : Rules) (o : Object) (s : State) (i : ℕ) (c : Command) : Type 0 where

@@ -2,6 +2,7 @@
 use Rattle.std.proofs.Common.{◌≡◌, ℕ, ◌+◌, ◌⊎◌, inl, inr, true, false, cond, Bool, List, [], ◌∷◌, ◌++◌, sym}
 use Rattle.std.proofs.Common.{refl, ap, ◌∙◌, subst, append_assoc, arith}
 use Rattle.std.specs.Prelude.{Some, nat_lt, ◌&&◌, if◌then◌else◌}
+use Rattle.std.proofs.lemmas.Bool.Decides.{nat_tests}
 use Rattle.monk_kinds.specs.declared.mode.Rules.{Rules}
 use Rattle.monk_object.specs.Object.{Object}
 use Rattle.monk_history.specs.declared.event.Next.TheVariants as next
@@ -12,16 +13,14 @@ use Rattle.monk_world.specs.declared.command.Command.TheVariants as command
 use Rattle.monk_world.specs.declared.home.Home.TheVariants as home
 use Rattle.monk_world.proofs.{UpdateLaws.at_update, RecordLaws.refused_or_done}
 use Rattle.monk_world.specs.{Places.place_of, Update.update, Runs.opening_state, State.State, World.World}
-use Rattle.monk_world.specs.StepTable.{call_of, is_call_in_range, IsDone}
-use Rattle.monk_world.specs.StepTable.{IsStep}
-use Rattle.monk_world.specs.Records.{Recorded, EntersWith, IsRecorded, HasDrawn, TicketsEnterInOrder}
 use Rattle.monk_world.specs.Steps.{place_after_arrive, place_after_ticket_look, place_after_seat_look, place_after_drop}
 use Rattle.monk_world.specs.Steps.{after_floor_in}
+use Rattle.monk_world.specs.StepTable.{call_of, is_call_in_range, IsDone, IsStep}
 use Rattle.monk_world.specs.declared.{answer.Answer.Answer, command.Command.Command, home.Home.Home}
+use Rattle.monk_world.specs.declared.source.Source.TheVariants.{Free, Granted, Called}
 use Rattle.monk_world.specs.declared.place.Place.{Place}
 use Rattle.monk_world.specs.declared.place.Place.TheVariants.{Idle, Ticket, Due, Active, Back, Passing, Inner}
-use Rattle.monk_world.specs.declared.source.Source.TheVariants.{Free, Granted, Called}
-use Rattle.std.proofs.lemmas.Bool.Decides.{nat_tests}
+use Rattle.monk_world.specs.Records.{Recorded, EntersWith, IsRecorded, HasDrawn, TicketsEnterInOrder}
 
 -- a seat at this place has ticket n, and has not entered with it
 abbrev HasTicket : ℕ → Place → Type 0

@@ -1,12 +1,11 @@
 -- The right is in exactly one place, because it is where `right` says
 use Rattle.std.proofs.Common.{◌≡◌, ℕ, ◌+◌, ◌%◌, ◌<◌, sym, ap, ◌∙◌, subst, arith}
+use Rattle.std.proofs.lemmas.Bool.Decides.{nat_tests}
 use Rattle.monk_world.proofs.RightLooks.{grant_is_there, call_is_there}
 use Rattle.monk_world.specs.{OnePlace.IsInOnePlace, World.World}
-use Rattle.monk_world.specs.Places.{stage, ticket, ticketed_stage, inside_stage}
-use Rattle.monk_world.specs.declared.place.Place.{Place}
-use Rattle.monk_world.specs.declared.place.Place.TheVariants.{Ticket, Inner}
 use Rattle.monk_world.specs.Right.{Whereabouts, AtTicket, KeepsRight, Waits}
-use Rattle.std.proofs.lemmas.Bool.Decides.{nat_tests}
+use Rattle.monk_world.specs.declared.place.Place.{Place, TheVariants.Ticket, TheVariants.Inner}
+use Rattle.monk_world.specs.Places.{stage, ticket, ticketed_stage, inside_stage}
 
 is_ticket : (p : Place) (t : ℕ) → stage p ≡ ticketed_stage → ticket p ≡ t → p ≡ Ticket t
 is_ticket p t a b = grind (arith, nat_tests)

@@ -2,7 +2,7 @@
 use Rattle.std.proofs.Common.{◌≡◌, ℕ, ◌==◌, ◌≤◌, ◌⊎◌, inl, inr, true, false, cond, Bool, List, [], ◌∷◌, ◌++◌, sym, refl}
 use Rattle.std.proofs.Common.{ap, ◌∙◌, subst, arith, append_assoc}
 use Rattle.std.specs.Prelude.{map, Some, None, not, nat_le, nat_lt, ◌&&◌, if◌then◌else◌}
-use Rattle.std.proofs.lemmas.Bool.{le-leb, leb-true}
+use Rattle.std.proofs.lemmas.Bool.{le-leb, leb-true, Decides.nat_tests}
 use Rattle.std.proofs.lemmas.List.{append-nil, Elements.filter-append, Folds.list_all-append}
 use Rattle.std.specs.List.{list_all}
 use Rattle.monk_kinds.specs.{Kind.IsKind, declared.mode.Pick.Pick, declared.mode.Rules.Rules}
@@ -28,13 +28,12 @@ use Rattle.monk_world.specs.{Runs.Told, Runs.IsRun, Runs.IsWellLed, Sound.Sound,
 use Rattle.monk_world.specs.{State.is_quiet, Steps.after_floor_in, Telling.command_of, World.World}
 use Rattle.monk_world.specs.StepTable.{call_of, command_version, is_call_in_range, is_call_offered, may_be_told}
 use Rattle.monk_world.specs.StepTable.{left_for, out_event, release_next, IsReleased, IsDone, IsAnswered, IsStep}
-use Rattle.monk_world.specs.Records.{Recorded, IsOwn, EntersWith, IsTaken, IsRecorded, recorded_by, recorded_command}
-use Rattle.monk_world.specs.Records.{are_in_version, IsRecordedBy, KeepsVersion, StepsAreTaken, RunsAreRecorded}
 use Rattle.monk_world.specs.declared.{answer.Answer.Answer, command.Command.Command, home.Home.Home}
+use Rattle.monk_world.specs.declared.source.Source.{Source, TheVariants.Free, TheVariants.Granted, TheVariants.Called}
 use Rattle.monk_world.specs.declared.place.Place.{Place}
 use Rattle.monk_world.specs.declared.place.Place.TheVariants.{Idle, Ticket, Due, Active, Back, Passing, Inner}
-use Rattle.monk_world.specs.declared.source.Source.{Source, TheVariants.Free, TheVariants.Granted, TheVariants.Called}
-use Rattle.std.proofs.lemmas.Bool.Decides.{nat_tests}
+use Rattle.monk_world.specs.Records.{Recorded, IsOwn, EntersWith, IsTaken, IsRecorded, recorded_by, recorded_command}
+use Rattle.monk_world.specs.Records.{are_in_version, IsRecordedBy, KeepsVersion, StepsAreTaken, RunsAreRecorded}
 
 -- whether the answer is that entry was chosen
 abbrev lets_in : Answer → Bool

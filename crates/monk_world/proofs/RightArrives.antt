@@ -1,15 +1,14 @@
 -- A seat that draws a ticket has the right if the monitor was free, and otherwise waits
 use Rattle.std.proofs.Common.{◌≡◌, ◌≢◌, ℕ, ◌+◌, ◌≤◌, ◌↔◌, ap, ◌∙◌, arith}
+use Rattle.std.proofs.lemmas.Bool.Decides.{nat_tests}
 use Rattle.monk_world.proofs.Holders.{held, holds, alone_with, waiter_stays, other_stage}
 use Rattle.monk_world.proofs.UpdateLaws.{at_update, update_here, update_else, all_back}
-use Rattle.monk_world.specs.{Update.update, World.World}
-use Rattle.monk_world.specs.Places.{HoldsRight, stage, ticket, outside_stage, ticketed_stage, due_stage, passing_stage}
-use Rattle.monk_world.specs.Places.{inside_stage}
+use Rattle.monk_world.specs.{Update.update, World.World, Places.HoldsRight, Places.stage, Places.ticket}
+use Rattle.monk_world.specs.{Places.outside_stage, Places.ticketed_stage, Places.due_stage, Places.passing_stage}
+use Rattle.monk_world.specs.{Places.inside_stage, declared.place.Place.Place, declared.place.Place.TheVariants.Ticket}
+use Rattle.monk_world.specs.{declared.place.Place.TheVariants.Due, declared.source.Source.TheVariants.Free}
 use Rattle.monk_world.specs.Right.{Whereabouts, With, KeepsRight, UsesTicket, ChoseInner, Waits, PassesNext, OwnsTicket}
 use Rattle.monk_world.specs.Right.{WasGranted, LeavesLow}
-use Rattle.monk_world.specs.declared.place.Place.{Place, TheVariants.Ticket, TheVariants.Due}
-use Rattle.monk_world.specs.declared.source.Source.TheVariants.{Free}
-use Rattle.std.proofs.lemmas.Bool.Decides.{nat_tests}
 
 module _ (seats : ℕ) (s : World) (right : Whereabouts) (owner : ℕ → ℕ) (r : KeepsRight seats s right owner)
     (i : ℕ) where

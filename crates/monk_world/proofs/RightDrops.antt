@@ -1,13 +1,12 @@
 -- A seat that chose entry takes itself off the ticket word: the monitor is free, or the next ticket must be granted
 use Rattle.std.proofs.Common.{◌≡◌, ◌≢◌, ℕ, ◌+◌, ◌-◌, ◌<◌, ◌≤◌, refl, ap, arith}
+use Rattle.std.proofs.lemmas.Bool.Decides.{nat_tests}
 use Rattle.monk_world.proofs.Holders.{held, alone_with, with_none, home_has_none, at_home, waiter_stays, others}
 use Rattle.monk_world.proofs.UpdateLaws.{at_update, update_here}
-use Rattle.monk_world.specs.{Update.update, World.World}
-use Rattle.monk_world.specs.Places.{stage, ticket, place_of, ticketed_stage, due_stage, back_stage, passing_stage}
-use Rattle.monk_world.specs.Right.{Whereabouts, Nowhere, With, KeepsRight, UsesTicket, ChoseInner, PassesNext}
-use Rattle.monk_world.specs.Right.{OwnsTicket, WasGranted}
+use Rattle.monk_world.specs.{Update.update, World.World, Right.Whereabouts, Right.Nowhere, Right.With, Right.KeepsRight}
+use Rattle.monk_world.specs.{Right.UsesTicket, Right.ChoseInner, Right.PassesNext, Right.OwnsTicket, Right.WasGranted}
 use Rattle.monk_world.specs.declared.{home.Home.Home, place.Place.Place, place.Place.TheVariants.Passing}
-use Rattle.std.proofs.lemmas.Bool.Decides.{nat_tests}
+use Rattle.monk_world.specs.Places.{stage, ticket, place_of, ticketed_stage, due_stage, back_stage, passing_stage}
 
 module _ (seats : ℕ) (s : World) (right : Whereabouts) (owner : ℕ → ℕ) (r : KeepsRight seats s right owner)
     (i : ℕ) where

@@ -1,29 +1,28 @@
 -- What every run leads to
 use Rattle.std.proofs.Common.{◌≡◌, ◌≢◌, ℕ, zero, suc, true, ◌≤◌, inl, inr, false, List, [], ◌∷◌, sym, refl, ap, ◌∙◌, subst, arith}
-use Rattle.std.{proofs.lemmas.Bool.cases_eq}
+use Rattle.std.proofs.lemmas.Bool.{cases_eq, Decides.nat_tests}
 use Rattle.monk_kinds.specs.{Kind.IsKind, declared.mode.Rules.Rules}
 use Rattle.monk_object.specs.Object.{Object}
 use Rattle.monk_history.specs.declared.event.Next.TheVariants as next
 use Rattle.monk_history.proofs.PublicLaws.Meaning.{enters_none, legal_none, situation-none}
-use Rattle.monk_history.specs.Meaning.{Situation.Situation, Situation.situation, Standing.standing}
-use Rattle.monk_history.specs.Meaning.{Standing.times_in_conditions, Step.opening_situation, Turn.turn}
-use Rattle.monk_history.specs.Meaning.Counts.{left_of, enters_of}
+use Rattle.monk_history.specs.Meaning.{Step.opening_situation, Turn.turn, Counts.left_of, Counts.enters_of}
+use Rattle.monk_history.specs.Meaning.Situation.{Situation, situation}
+use Rattle.monk_history.specs.Meaning.Standing.{standing, times_in_conditions}
 use Rattle.monk_history.specs.declared.event.Turn.TheVariants.{Open, Owned}
 use Rattle.monk_floor.specs.View.{FloorView, monitor_of, empty_floor}
 use Rattle.monk_world.proofs.EntersLaws as enters
 use Rattle.monk_world.proofs.{OnePlaceLaws.in_one_place, SoundSteps.step_is_sound, StepLaws.opening_stands}
 use Rattle.monk_world.proofs.{TestLaws.is_quiet-true}
-use Rattle.monk_world.specs.{Enters.used_at, Laws.OpeningIsSound, Stands.Stands, Stands.opening_world, State.State}
-use Rattle.monk_world.specs.{State.is_standing, State.is_quiet, Turns.FitsTurn, Turns.turn_number, Turns.turn_at}
+use Rattle.monk_world.specs.{Enters.used_at, Laws.OpeningIsSound, State.State, State.is_standing, State.is_quiet}
+use Rattle.monk_world.specs.{Turns.FitsTurn, Turns.turn_number, Turns.turn_at, Places.stage, Places.ticket}
+use Rattle.monk_world.specs.{Places.source, Places.owned_by, Places.due_stage, Places.active_stage, Places.inside_stage}
+use Rattle.monk_world.specs.{Places.granted_source, Sound.IsSound, Sound.Sound, Sound.left_at}
+use Rattle.monk_world.specs.declared.source.Source.TheVariants.{Free, Granted, Called}
 use Rattle.monk_world.specs.declared.place.Place.{Place}
 use Rattle.monk_world.specs.declared.place.Place.TheVariants.{Idle, Ticket, Due, Active, Back, Passing, Inner}
-use Rattle.monk_world.specs.declared.source.Source.TheVariants.{Free, Granted, Called}
 use Rattle.monk_world.specs.Right.{Whereabouts, Nowhere, AtTicket, With, AtSeat}
-use Rattle.monk_world.specs.Places.{stage, ticket, source, owned_by, due_stage, active_stage, inside_stage}
-use Rattle.monk_world.specs.Places.{granted_source}
-use Rattle.monk_world.specs.Sound.{IsSound, Sound, left_at}
 use Rattle.monk_world.specs.Runs.{opening_state, Told, IsRun, IsWellLed, RunsAreWellLed}
-use Rattle.std.proofs.lemmas.Bool.Decides.{nat_tests}
+use Rattle.monk_world.specs.Stands.{Stands, opening_world}
 
 no_times : (n j : ℕ) → times_in_conditions n j (λ c. []) ≡ 0
 no_times zero j = refl

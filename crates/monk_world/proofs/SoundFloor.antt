@@ -2,7 +2,7 @@
 use Rattle.std.proofs.Common.{◌≡◌, ◌≢◌, ℕ, ◌+◌, ◌==◌, ◌<◌, ◌≤◌, ◌⊎◌, true, false, Bool, List, [], ◌∷◌, ◌++◌, sym, refl}
 use Rattle.std.proofs.Common.{ap, ◌∙◌, subst, inl, inr, arith, eq-eqb}
 use Rattle.std.specs.Prelude.{if◌then◌else◌, not, nat_lt, Option, Some}
-use Rattle.std.proofs.lemmas.Bool.{ne_eqb, Decides.eqb_tells}
+use Rattle.std.proofs.lemmas.Bool.{ne_eqb, Decides.eqb_tells, Decides.nat_tests}
 use Rattle.monk_kinds.specs.declared.mode.{Pick.Pick, Rules.Rules}
 use Rattle.monk_object.specs.Object.{Object}
 use Rattle.monk_history.specs.declared.event.Next.TheVariants as next
@@ -15,27 +15,25 @@ use Rattle.monk_history.specs.Meaning.{Moves.CountsAfter, Reasons.IsAllowed, Rel
 use Rattle.monk_history.specs.Meaning.{Situation.situation, Standing.standing, Turn.turn, Turn.turn_by, Turn.is_inside}
 use Rattle.monk_history.specs.Meaning.Counts.{left_of, enters_of, is_enter, grants}
 use Rattle.monk_history.specs.Meaning.Events.{seat_of, next_of, is_stay, is_way_out}
-use Rattle.monk_history.specs.declared.event.{Next.Next}
-use Rattle.monk_history.specs.declared.event.Event.{Event, TheVariants.Enter, TheVariants.Resume}
+use Rattle.monk_history.specs.declared.event.{Next.Next, Event.Event, Event.TheVariants.Enter, Event.TheVariants.Resume}
 use Rattle.monk_floor.specs.View.{monitor_of, stands_of}
 use Rattle.monk_world.specs.declared.home.Home.TheVariants as home
 use Rattle.monk_world.proofs.EntersLaws as enters
 use Rattle.monk_world.proofs.{Holders.others, UpdateLaws.at_update, UpdateLaws.update_here}
-use Rattle.monk_world.proofs.StepLaws.{floor_out_keeps_the_right, activity_keeps_the_right, floor_in_keeps_the_right}
 use Rattle.monk_world.proofs.TestLaws.{none_below, some_above, quiet_is, is_quiet-true, open_is, due_is, number_chosen}
 use Rattle.monk_world.proofs.TestLaws.{names_chosen, entry_chosen, outside_is}
-use Rattle.monk_world.specs.{Enters.FitsEnters, Enters.used_by, Update.update, Right.Whereabouts, Stands.Stands}
-use Rattle.monk_world.specs.{StepTable.out_event, StepTable.queue_due, Turns.turn_number, Turns.turn_at}
-use Rattle.monk_world.specs.Steps.{after_floor_out, after_floor_in}
+use Rattle.monk_world.proofs.StepLaws.{floor_out_keeps_the_right, activity_keeps_the_right, floor_in_keeps_the_right}
+use Rattle.monk_world.specs.{Update.update, Right.Whereabouts, Stands.Stands, StepTable.out_event, StepTable.queue_due}
+use Rattle.monk_world.specs.{Turns.turn_number, Turns.turn_at, Steps.after_floor_out, Steps.after_floor_in}
+use Rattle.monk_world.specs.Enters.{FitsEnters, used_by}
 use Rattle.monk_world.specs.State.{State, with_event, is_standing, is_quiet}
-use Rattle.monk_world.specs.declared.place.Place.{Place, TheVariants.Due, TheVariants.Active, TheVariants.Back}
 use Rattle.monk_world.specs.declared.source.Source.{Source, TheVariants.Free, TheVariants.Granted, TheVariants.Called}
 use Rattle.monk_world.specs.declared.home.Home.{Home}
+use Rattle.monk_world.specs.declared.place.Place.{Place, TheVariants.Due, TheVariants.Active, TheVariants.Back}
 use Rattle.monk_world.specs.Places.{stage, ticket, source, open_turn, due_to, turn_of_next, stays_inside}
-use Rattle.monk_world.specs.Places.{comes_from_queue, outside_stage, ticketed_stage, due_stage}
-use Rattle.monk_world.specs.Places.{active_stage, passing_stage, free_source, granted_source}
+use Rattle.monk_world.specs.Places.{comes_from_queue, outside_stage, ticketed_stage, due_stage, active_stage}
+use Rattle.monk_world.specs.Places.{passing_stage, free_source, granted_source}
 use Rattle.monk_world.specs.Sound.{IsSound, Sound, left_at, left_within}
-use Rattle.std.proofs.lemmas.Bool.Decides.{nat_tests}
 
 abbrev number_of : Bool → ℕ
 number_of b = if b then 1 else 0

@@ -2,16 +2,16 @@
 use Rattle.std.proofs.Common.{◌≡◌, ℕ, ◌+◌, ◌%◌, ◌==◌, ◌<◌, ◌≤◌, ◌⊎◌, true, false, cond, Bool, ◌&&◌, ◌||◌, List, sym}
 use Rattle.std.proofs.Common.{refl, ap, ◌∙◌, subst, inl, inr, arith, eq-eqb}
 use Rattle.std.specs.Prelude.{if◌then◌else◌, not, nat_lt, nat_le, Option, Some, None}
-use Rattle.std.proofs.lemmas.Bool.{ltb-true}
+use Rattle.std.proofs.lemmas.Bool.{ltb-true, Decides.nat_tests}
 use Rattle.monk_kinds.specs.{Kind.IsKind, declared.mode.Pick.Pick, declared.mode.Rules.Rules}
 use Rattle.monk_object.specs.{Object.Object, declared.op.Op.Op}
 use Rattle.monk_history.specs.declared.event.Next.TheVariants as next
 use Rattle.monk_history.specs.declared.event.Turn.TheVariants as turn
 use Rattle.monk_history.proofs.PublicLaws.Meaning.{legal_order, chosen_allowed}
-use Rattle.monk_history.specs.Meaning.{Counts.left_of, Counts.is_enter, Monitor.data_of, Situation.situation}
-use Rattle.monk_history.specs.Meaning.Reasons.{IsAllowed, is_owned_by, is_in_range, is_offered, is_right_reply}
-use Rattle.monk_history.specs.Meaning.Turn.{turn, turn_by}
+use Rattle.monk_history.specs.Meaning.{Monitor.data_of, Situation.situation, Turn.turn, Turn.turn_by}
+use Rattle.monk_history.specs.Meaning.Counts.{left_of, is_enter}
 use Rattle.monk_history.specs.Meaning.Events.{seat_of, next_of, is_stay, is_way_out}
+use Rattle.monk_history.specs.Meaning.Reasons.{IsAllowed, is_owned_by, is_in_range, is_offered, is_right_reply}
 use Rattle.monk_history.specs.Meaning.Release.{MayCall, with_next, as_called, choice_of}
 use Rattle.monk_history.specs.declared.event.Next.{Next}
 use Rattle.monk_history.specs.declared.event.Event.{Event}
@@ -21,20 +21,19 @@ use Rattle.monk_floor.specs.View.{monitor_of, stands_of}
 use Rattle.monk_world.specs.declared.answer.Answer.TheVariants as answer
 use Rattle.monk_world.specs.declared.command.Command.TheVariants as command
 use Rattle.monk_world.specs.declared.home.Home.TheVariants as home
+use Rattle.monk_world.proofs.UpdateLaws.{at_update}
 use Rattle.monk_world.proofs.SoundFloor.{stays, goes_home, own_stands, quiet_after_entry, left_own, sound_out}
 use Rattle.monk_world.proofs.SoundWords.{sound_arrival, sound_ticket_look, sound_seat_look, sound_drop}
 use Rattle.monk_world.proofs.SoundWords.{sound_ticket_grant, sound_seat_grant}
-use Rattle.monk_world.proofs.UpdateLaws.{at_update}
 use Rattle.monk_world.specs.{Update.update, Right.Whereabouts, State.State, State.with_event, Steps.after_floor_in}
 use Rattle.monk_world.specs.StepTable.{call_of, is_call_in_range, is_call_offered, may_be_told, left_for, release_next}
 use Rattle.monk_world.specs.StepTable.{IsDone, IsAnswered, IsStep}
-use Rattle.monk_world.specs.Places.{stage, stays_inside, active_stage}
-use Rattle.monk_world.specs.Sound.{IsSound, Sound, left_within}
 use Rattle.monk_world.specs.declared.{answer.Answer.Answer, command.Command.Command, home.Home.Home}
 use Rattle.monk_world.specs.declared.{source.Source.Source}
 use Rattle.monk_world.specs.declared.place.Place.{Place}
 use Rattle.monk_world.specs.declared.place.Place.TheVariants.{Idle, Ticket, Due, Active, Back, Passing, Inner}
-use Rattle.std.proofs.lemmas.Bool.Decides.{nat_tests}
+use Rattle.monk_world.specs.Places.{stage, stays_inside, active_stage}
+use Rattle.monk_world.specs.Sound.{IsSound, Sound, left_within}
 
 pub stay_is : (x : Next) → is_stay (Some x) ≡ true → x ≡ next.Stay
 stay_is x e = grind (arith, nat_tests)

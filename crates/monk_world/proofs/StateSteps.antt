@@ -1,16 +1,15 @@
 -- From the change of the words and the floor to a step of the state
 use Rattle.std.proofs.Common.{◌≡◌, ℕ, ◌+◌, ◌%◌, ◌==◌, ◌<◌, cond, Bool, true, false, length, ◌||◌}
 use Rattle.std.proofs.Common.{sym, ap, ◌∙◌, subst, arith}
-use Rattle.std.proofs.lemmas.Bool.{eqb-true, cases_lt}
+use Rattle.std.proofs.lemmas.Bool.{eqb-true, cases_lt, Decides.nat_tests}
 use Rattle.std.specs.Prelude.{nat_le, slice_index_or, Some, None}
 use Rattle.monk_kinds.specs.{Kind.IsKind, declared.mode.Pick.Pick, declared.mode.Rules.Rules}
 use Rattle.monk_object.specs.{Object.Object, declared.op.Op.Op}
 use Rattle.monk_history.specs.declared.event.Next.TheVariants as next
 use Rattle.monk_history.proofs.PublicLaws.Meaning.{legal_last}
-use Rattle.monk_history.specs.Meaning.{Conditions.condition, Events.is_stay, Monitor.data_of}
-use Rattle.monk_history.specs.Meaning.{Release.with_next, Turn.turn}
-use Rattle.monk_history.specs.Meaning.Reasons.{IsAllowed}
-use Rattle.monk_history.specs.declared.event.{Next.Next}
+use Rattle.monk_history.specs.Meaning.{Conditions.condition, Events.is_stay, Monitor.data_of, Release.with_next}
+use Rattle.monk_history.specs.Meaning.{Turn.turn, Reasons.IsAllowed}
+use Rattle.monk_history.specs.declared.event.Next.{Next}
 use Rattle.monk_history.specs.declared.event.Event.{Event, TheVariants.Act, TheVariants.SignalAll}
 use Rattle.monk_floor.specs.{Grown.IsGrown, View.FloorView, View.monitor_of}
 use Rattle.monk_world.specs.declared.answer.Answer.TheVariants as answer
@@ -18,17 +17,16 @@ use Rattle.monk_world.specs.declared.command.Command.TheVariants as command
 use Rattle.monk_world.proofs.{BoundLaws.few_drawn, SoundFloor.sound_out}
 use Rattle.monk_world.proofs.DoneLaws.{IsReady, ready, kept_done}
 use Rattle.monk_world.specs.{Kept.IsKept, Update.update, State.State, State.with_event}
-use Rattle.monk_world.specs.StepTable.{may_be_told, names_entry, is_back}
-use Rattle.monk_world.specs.StepTable.{refusal, release_next, out_event, IsDone, IsReleased}
-use Rattle.monk_world.specs.Steps.{after_arrive, after_ticket_look, after_seat_look, after_floor_out, after_floor_in}
-use Rattle.monk_world.specs.Steps.{after_drop, after_ticket_grant, after_seat_grant}
+use Rattle.monk_world.specs.StepTable.{may_be_told, names_entry, is_back, refusal, release_next, out_event, IsDone}
+use Rattle.monk_world.specs.StepTable.{IsReleased}
+use Rattle.monk_world.specs.WorldViews.{WorldView, state_of_view, view_in, state_in, world_on, Shows, ShowsKnown}
 use Rattle.monk_world.specs.declared.{answer.Answer.Answer, command.Command.Command, home.Home.Home}
 use Rattle.monk_world.specs.declared.{source.Source.Source, words.WorldWords.WorldWords}
 use Rattle.monk_world.specs.declared.place.Place.{Place}
 use Rattle.monk_world.specs.declared.place.Place.TheVariants.{Idle, Ticket, Due, Active, Back, Passing, Inner}
-use Rattle.monk_world.specs.WorldViews.{WorldView, state_of_view, view_in, state_in, world_on, Shows, ShowsKnown}
 use Rattle.monk_world.specs.Places.{stage, back_turn, turn_of_next, due_to, outside_stage, active_stage}
-use Rattle.std.proofs.lemmas.Bool.Decides.{nat_tests}
+use Rattle.monk_world.specs.Steps.{after_arrive, after_ticket_look, after_seat_look, after_floor_out, after_floor_in}
+use Rattle.monk_world.specs.Steps.{after_drop, after_ticket_grant, after_seat_grant}
 
 idle_is : (p : Place) → (stage p == outside_stage) ≡ true → p ≡ Idle
 idle_is p e = grind (arith, nat_tests)

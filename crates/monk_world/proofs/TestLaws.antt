@@ -1,16 +1,15 @@
 -- From tests to facts, and back
 use Rattle.std.proofs.Common.{◌≡◌, ◌≢◌, ℕ, true, false, cond, Bool, refl, ap, arith}
-use Rattle.std.{specs.Prelude.nat_lt, specs.Prelude.Some, proofs.lemmas.Bool.lt-ltb}
+use Rattle.std.proofs.lemmas.Bool.{lt-ltb, Decides.nat_tests}
+use Rattle.std.specs.Prelude.{nat_lt, Some}
 use Rattle.monk_kinds.specs.declared.mode.Rules.{Rules}
 use Rattle.monk_object.specs.Object.{Object}
 use Rattle.monk_history.specs.declared.event.Next.TheVariants as next
-use Rattle.monk_history.specs.Meaning.{Counts.chooses_seat, Entry.IsQuiet, Events.is_stay}
-use Rattle.monk_history.specs.Meaning.{Turn.turn_by}
+use Rattle.monk_history.specs.Meaning.{Counts.chooses_seat, Entry.IsQuiet, Events.is_stay, Turn.turn_by}
 use Rattle.monk_history.specs.declared.event.{From3.From3, Next.Next}
 use Rattle.monk_history.specs.declared.event.Turn.{Turn, TheVariants.Open, TheVariants.Due, TheVariants.Owned}
 use Rattle.monk_floor.specs.View.{FloorView, monitor_of}
 use Rattle.monk_world.specs.{Places.open_turn, Places.due_to, Places.turn_of_next, State.is_quiet, Turns.turn_number}
-use Rattle.std.proofs.lemmas.Bool.Decides.{nat_tests}
 
 pub none_below : (n : ℕ) → nat_lt 0 n ≡ false → n ≡ 0
 none_below n e = grind (arith, e)

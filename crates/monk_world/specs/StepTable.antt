@@ -7,27 +7,26 @@ use Rattle.monk_object.specs.Object.{Object}
 use Rattle.monk_history.specs.declared.event.Next.TheVariants as next
 use Rattle.monk_history.specs.declared.event.Turn.TheVariants as turn
 use Rattle.monk_history.specs.declared.event.Via.TheVariants as via
-use Rattle.monk_history.specs.Text.{first_version}
 use Rattle.monk_history.specs.Meaning.{Conditions.condition, Counts.left_of, Events.is_stay, Monitor.data_of, Turn.turn}
-use Rattle.monk_history.specs.Meaning.Reasons.{is_in_range, is_offered}
-use Rattle.monk_history.specs.Meaning.Release.{with_next, choice_of}
+use Rattle.monk_history.specs.Meaning.{Reasons.is_in_range, Reasons.is_offered, Release.with_next, Release.choice_of}
 use Rattle.monk_history.specs.declared.event.{From3.From3, From3.TheVariants.Waiter as FromWaiter, Next.Next, Turn.Turn}
 use Rattle.monk_history.specs.declared.event.Event.{Event}
 use Rattle.monk_history.specs.declared.event.Event.TheVariants.{Enter, Act, Leave, Wait, Signal, SignalLeave, Until}
 use Rattle.monk_history.specs.declared.event.Event.TheVariants.{Resume, SignalAll, SignalWait}
+use Rattle.monk_history.specs.Text.{first_version}
 use Rattle.monk_floor.specs.View.{FloorView, monitor_of, stands_of}
 use Rattle.monk_world.specs.declared.answer.Answer.TheVariants as answer
 use Rattle.monk_world.specs.declared.command.Command.TheVariants as command
 use Rattle.monk_world.specs.declared.home.Home.TheVariants as home
-use Rattle.monk_world.specs.{Update.update, State.State, State.with_event}
-use Rattle.monk_world.specs.Places.{stage, outside_stage, ticketed_stage, due_stage, active_stage, passing_stage}
-use Rattle.monk_world.specs.Places.{inside_stage}
+use Rattle.monk_world.specs.{Update.update, Places.stage, Places.outside_stage, Places.ticketed_stage, Places.due_stage}
+use Rattle.monk_world.specs.{Places.active_stage, Places.passing_stage, Places.inside_stage}
 use Rattle.monk_world.specs.Steps.{after_arrive, after_ticket_look, after_seat_look, after_floor_out, after_floor_in}
 use Rattle.monk_world.specs.Steps.{after_drop, after_ticket_grant, after_seat_grant}
 use Rattle.monk_world.specs.declared.{answer.Answer.Answer, command.Command.Command, home.Home.Home}
+use Rattle.monk_world.specs.declared.source.Source.{Source, TheVariants.Free, TheVariants.Granted, TheVariants.Called}
 use Rattle.monk_world.specs.declared.place.Place.{Place}
 use Rattle.monk_world.specs.declared.place.Place.TheVariants.{Idle, Ticket, Due, Active, Back, Passing, Inner}
-use Rattle.monk_world.specs.declared.source.Source.{Source, TheVariants.Free, TheVariants.Granted, TheVariants.Called}
+use Rattle.monk_world.specs.State.{State, with_event}
 
 -- the call on the floor that seat i makes, written with `stay` and reply 0
 abbrev pub call_of : ℕ → Command → Option Event

@@ -1,10 +1,9 @@
 ghost use Rattle.std.specs.Prelude.{◌≡◌, ◌<◌, ◌≤◌, length, Option, Some, None, IfOk, IfErr};
 ghost use Rattle.monk_floor.specs.{Making.make_refusal, Making.IsRefused, View.monitor_of};
 ghost use Rattle.monk_history.specs.{Limits.most_lines, Meaning.Legal.IsLegal};
-ghost use Rattle.monk_world.specs.{Telling.IsLed, WorldViews.state_of_view, Shown.is_granted};
+ghost use Rattle.monk_world.specs.{Telling.IsLed, WorldViews.state_of_view, Shown.is_granted, Records.IsRecordedBy};
+ghost use Rattle.monk_world.specs.{Records.IsTakenBy, Records.KeepsVersion, Runs.IsWellLed, Runs.opening_state};
 ghost use Rattle.monk_world.specs.StepTable.{IsStep, IsDone, refusal, left_for, may_be_told};
-ghost use Rattle.monk_world.specs.Records.{IsRecordedBy, IsTakenBy, KeepsVersion};
-ghost use Rattle.monk_world.specs.Runs.{IsWellLed, opening_state};
 
 use crate::answer::Answer;
 use crate::command::Command;

@@ -1,7 +1,7 @@
 -- Queues as links: what they show, and what a change of one queue keeps
 use Rattle.std.proofs.Common.{◌≡◌, ◌≢◌, ℕ, zero, suc, ◌<◌, ◌≤◌, ◌+◌, ◌==◌, Bool, true, false, cond, List, [], ◌∷◌, map}
 use Rattle.std.proofs.Common.{length, refl, sym, ap, subst, ◌∙◌, arith, ⊎_elim, eq-eqb, eqb-true, get_or-set_same, get_or-set_other}
-use Rattle.std.proofs.lemmas.{Bool.cases_lt, Bool.cases_eq, List.get_or_past, List.length-set}
+use Rattle.std.proofs.lemmas.{Bool.cases_lt, Bool.cases_eq, Bool.Decides.nat_tests, List.get_or_past, List.length-set}
 use Rattle.std.specs.Prelude.{slice_set, nat_lt}
 use Rattle.monk_history.proofs.PublicLaws.Meaning.{length_total, total_le, times_le_conditions}
 use Rattle.monk_history.specs.{Limits.most_seats, Meaning.Standing.times, Meaning.Standing.times_in_conditions}
@@ -9,7 +9,6 @@ use Rattle.monk_floor.proofs.LinkLaws.Walks.{length-walk, ends_there}
 use Rattle.monk_floor.specs.{declared.chain.Chain.Chain, Queues.queue_at}
 use Rattle.monk_floor.specs.Links.{most_queues, walk, seats_of, empty_chain, chain_at, queue_in, places, EndsWith}
 use Rattle.monk_floor.specs.Links.{IsLinked}
-use Rattle.std.proofs.lemmas.Bool.Decides.{nat_tests}
 
 walk_there : (next : List ℕ) (n f l : ℕ) → EndsWith (walk next (suc n) f) l → 1 ≤ times l (walk next (suc n) f)
 unfolding walk

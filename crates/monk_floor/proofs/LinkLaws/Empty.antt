@@ -1,11 +1,10 @@
 -- Queues with nobody in them
 use Rattle.std.proofs.Common.{◌≡◌, ℕ, zero, suc, List, [], ◌∷◌, map, refl, ap, ◌∙◌, arith, length}
-use Rattle.monk_history.specs.Meaning.Standing.{times, times_in_conditions}
-use Rattle.monk_floor.specs.declared.chain.Chain.{Chain}
-use Rattle.monk_floor.specs.Links.{most_queues, walk, seats_of, empty_chain, chain_at, queue_in, places, IsLinked}
-use Rattle.monk_floor.specs.Queues.{queue_at}
-use Rattle.monk_floor.proofs.LinkLaws.Chains.{queue_is}
 use Rattle.std.proofs.lemmas.Bool.Decides.{nat_tests}
+use Rattle.monk_history.specs.Meaning.Standing.{times, times_in_conditions}
+use Rattle.monk_floor.proofs.LinkLaws.Chains.{queue_is}
+use Rattle.monk_floor.specs.{declared.chain.Chain.Chain, Queues.queue_at}
+use Rattle.monk_floor.specs.Links.{most_queues, walk, seats_of, empty_chain, chain_at, queue_in, places, IsLinked}
 
 abbrev empty_chains : ℕ → List Chain
 empty_chains zero = []

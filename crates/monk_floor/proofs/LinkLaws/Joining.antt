@@ -1,14 +1,13 @@
 -- A seat joins the back of a queue
 use Rattle.std.proofs.Common.{◌≡◌, ◌≢◌, ℕ, suc, ◌<◌, ◌≤◌, ◌+◌, ◌-◌, ◌==◌, Bool, true, cond, List, [], ◌∷◌, ◌++◌, map}
 use Rattle.std.proofs.Common.{length, refl, sym, ap, subst, ◌∙◌, arith, eq-eqb, eqb-true, append-nil, rules}
-use Rattle.std.specs.Prelude.{slice_set, nat_lt}
+use Rattle.std.{specs.Prelude.slice_set, specs.Prelude.nat_lt, proofs.lemmas.Bool.Decides.nat_tests}
 use Rattle.monk_history.specs.{Limits.most_seats, Meaning.Standing.times}
 use Rattle.monk_floor.proofs.LinkLaws.Walks.{walk-set, walk-push, ends_push}
 use Rattle.monk_floor.proofs.LinkLaws.Chains.{queue_is, linked_again, seen_again, apart, last_there, at_most_once}
 use Rattle.monk_floor.proofs.LinkLaws.Chains.{last_in_range}
 use Rattle.monk_floor.specs.{declared.chain.Chain.Chain, Queues.queue_at}
 use Rattle.monk_floor.specs.Links.{most_queues, walk, seats_of, chain_at, queue_in, places, EndsWith, IsLinked}
-use Rattle.std.proofs.lemmas.Bool.Decides.{nat_tests}
 
 pub some_more : (n : ℕ) → (n ≡ 0 → ⊥) → n ≡ suc (n - 1)
 some_more n h = omega arith

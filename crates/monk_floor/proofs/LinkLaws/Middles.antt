@@ -1,11 +1,10 @@
 -- A seat is looked for in a list, and taken out of it
 use Rattle.std.proofs.Common.{◌≡◌, ◌≢◌, ℕ, zero, suc, ◌<◌, ◌≤◌, ◌+◌, ◌==◌, Bool, true, false, cond, not, Some, None, List, [], ◌∷◌}
 use Rattle.std.proofs.Common.{length, refl, sym, ap, subst, ◌∙◌, arith, eq-eqb, eqb-true, get_or, get_or-set_same, get_or-set_other, ⊎_elim}
-use Rattle.std.{specs.Prelude.slice_set, proofs.lemmas.Bool.cases_eq}
+use Rattle.std.{specs.Prelude.slice_set, proofs.lemmas.Bool.cases_eq, proofs.lemmas.Bool.Decides.nat_tests}
 use Rattle.monk_history.specs.Meaning.Standing.{times}
 use Rattle.monk_floor.proofs.LinkLaws.Walks.{walk-set, ends_there, other, rest, behind}
 use Rattle.monk_floor.specs.Links.{walk, EndsWith, without, seat_before}
-use Rattle.std.proofs.lemmas.Bool.Decides.{nat_tests}
 
 one_of : (x s : ℕ) → x ≡ s → ◌≡◌ {A = ℕ} (cond (x == s) 1 0) 1
 one_of x s e = ap (λ b. cond b 1 0) (eq-eqb x s e)

@@ -1,17 +1,16 @@
 -- All seats of a queue go to the back of another, in order
 use Rattle.std.proofs.Common.{◌≡◌, ◌≢◌, ℕ, zero, suc, ◌<◌, ◌≤◌, ◌+◌, ◌-◌, ◌==◌, Bool, true, cond, List, [], ◌∷◌, ◌++◌, map}
 use Rattle.std.proofs.Common.{length, refl, sym, ap, subst, ◌∙◌, arith, eq-eqb, eqb-true, append-nil, rules}
-use Rattle.std.proofs.Common.{get_or, get_or-set_same, get_or-set_other}
+use Rattle.std.proofs.{Common.get_or, Common.get_or-set_same, Common.get_or-set_other, lemmas.Bool.Decides.nat_tests}
 use Rattle.std.specs.Prelude.{slice_set, nat_lt}
 use Rattle.monk_history.specs.{Limits.most_seats, Meaning.Standing.times}
 use Rattle.monk_floor.proofs.LinkLaws.{Walks.walk-set, Walks.behind, Walks.ends_there, Joining.some_more, Empty.none}
+use Rattle.monk_floor.proofs.LinkLaws.Taking.{none_here, some_here, none_seen}
 use Rattle.monk_floor.proofs.LinkLaws.Chains.{queue_is, linked_again, seen_again, apart, places_one, last_there}
 use Rattle.monk_floor.proofs.LinkLaws.Chains.{at_most_once, last_in_range}
-use Rattle.monk_floor.proofs.LinkLaws.Taking.{none_here, some_here, none_seen}
 use Rattle.monk_floor.specs.{declared.chain.Chain.Chain, Queues.queue_at}
 use Rattle.monk_floor.specs.Links.{most_queues, walk, seats_of, empty_chain, chain_at, queue_in, places, EndsWith}
 use Rattle.monk_floor.specs.Links.{IsLinked}
-use Rattle.std.proofs.lemmas.Bool.Decides.{nat_tests}
 
 -- two lists, one after the other
 pub times_both : (s : ℕ) (xs ys : List ℕ) → times s (xs ++ ys) ≡ times s xs + times s ys

@@ -1,22 +1,21 @@
 -- The acts of a legal history are a run of its object, so the laws of the object hold for them
 use Rattle.std.proofs.Common.{◌≡◌, ℕ, true, List, [], ◌∷◌, ◌++◌, map, refl, sym, ap, ◌∙◌}
-use Rattle.std.proofs.lemmas.{Grind.flat_map-append, List.map-append, List.Sums.fold-append}
+use Rattle.std.proofs.lemmas.{Grind.flat_map-append, List.map-append, List.Sums.fold-append, Bool.Decides.nat_tests}
+use Rattle.std.proofs.Common.{arith}
 use Rattle.monk_kinds.specs.declared.mode.Rules.{Rules}
 use Rattle.monk_object.proofs.PublicLaws.{first_in_first_out, exclusive, customers, last_set}
-use Rattle.monk_object.specs.{Object.Object, Runs.Answered, Runs.answers_of, Runs.state_after}
-use Rattle.monk_object.specs.Names.{meaning_named, opening_named}
+use Rattle.monk_object.specs.{Object.Object, Names.meaning_named, Names.opening_named}
+use Rattle.monk_object.specs.Runs.{Answered, answers_of, state_after}
+use Rattle.monk_object.specs.declared.op.Op.{Op}
 use Rattle.monk_object.specs.declared.name.ObjectName.{ObjectName}
 use Rattle.monk_object.specs.declared.name.ObjectName.TheVariants.{Buffer, Book, Shop, Flags}
-use Rattle.monk_object.specs.declared.op.Op.{Op}
 use Rattle.monk_history.proofs.MeaningLaws.{HistoryLaws.history_induction, TurnLaws.data-push}
 use Rattle.monk_history.proofs.MeaningLaws.LegalLaws.{legal_front, legal_last}
 use Rattle.monk_history.specs.Meaning.{Legal.IsLegal, Reasons.is_right_reply}
+use Rattle.monk_history.specs.Meaning.Monitor.{Monitor, monitor, data_after, data_of}
 use Rattle.monk_history.specs.Meaning.Acts.{act_of, acts_in, ops_in, IsRunOf, IsInOrder, ExcludesEachOther}
 use Rattle.monk_history.specs.Meaning.Acts.{ServesEachOne, HoldsLastSet}
-use Rattle.monk_history.specs.Meaning.Monitor.{Monitor, monitor, data_after, data_of}
 use Rattle.monk_history.specs.declared.event.Event.{Event}
-use Rattle.std.proofs.lemmas.Bool.Decides.{nat_tests}
-use Rattle.std.proofs.Common.{arith}
 
 abbrev ops : List Answered → List Op
 ops acts = map (λ act. act.op) acts

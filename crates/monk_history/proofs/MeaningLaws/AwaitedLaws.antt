@@ -2,26 +2,22 @@
 use Rattle.std.proofs.Common.{◌≡◌, ℕ, ◌+◌, ◌<◌, Bool, true, false, cond, ◌&&◌, ◌==◌, Option, Some, None, List}
 use Rattle.std.proofs.Common.{[], ◌∷◌, ◌++◌}
 use Rattle.std.proofs.Common.{length, get_or, ◌-◌, take, refl, sym, ap, ◌∙◌, arith, eq-eqb}
-use Rattle.std.proofs.lemmas.{Bool.false≢true, Option.slice_get_within, Option.slice_get-get_or}
+use Rattle.std.proofs.lemmas.{Bool.false≢true, Bool.Decides.nat_tests, Option.slice_get_within, Option.slice_get-get_or}
 use Rattle.std.specs.{List.list_any, Option.option_map_or}
 use Rattle.std.specs.Prelude.{slice_get, is_some, filter, map}
 use Rattle.monk_kinds.specs.declared.mode.Rules.{Rules}
 use Rattle.monk_object.specs.Object.{Object}
 use Rattle.monk_history.proofs.MeaningLaws.HandOverLaws.{take_more_by_one, or_left, or_right, both, by_stay}
 use Rattle.monk_history.proofs.MeaningLaws.TurnLaws.{turn-push, data-push}
-use Rattle.monk_history.specs.Meaning.{Situation.situation, Reasons.is_due, Legal.IsLegal, Promises.AwaitsWhatHolds}
-use Rattle.monk_history.specs.Meaning.{Promises.ThePredicateHolds, Untils.untils, Untils.ready_of}
-use Rattle.monk_history.specs.Meaning.Choice.{Queues, queues_at, may_choose, may_signal, must_stay, is_front}
+use Rattle.monk_history.specs.Meaning.{Situation.situation, Reasons.is_due, Legal.IsLegal, Turn.turn, Turn.turn_by}
 use Rattle.monk_history.specs.Meaning.Monitor.{Monitor, data_of}
-use Rattle.monk_history.specs.Meaning.Turn.{turn, turn_by}
 use Rattle.monk_history.specs.Meaning.Events.{seat_of, next_of, is_stay, steps_back, answered_act}
+use Rattle.monk_history.specs.Meaning.Promises.{AwaitsWhatHolds, ThePredicateHolds}
+use Rattle.monk_history.specs.Meaning.Choice.{Queues, queues_at, may_choose, may_signal, must_stay, is_front}
+use Rattle.monk_history.specs.Meaning.Untils.{untils, ready_of}
+use Rattle.monk_history.specs.declared.event.{Turn.Turn, Turn.TheVariants.Due, Event.Event, Event.TheVariants.Resume}
 use Rattle.monk_history.specs.declared.event.From3.{From3, TheVariants.Until as FromUntil}
-use Rattle.monk_history.specs.declared.event.Next.{Next}
-use Rattle.monk_history.specs.declared.event.Next.TheVariants.{Until as UntilSeat}
-use Rattle.monk_history.specs.declared.event.Turn.{Turn, TheVariants.Due}
-use Rattle.monk_history.specs.declared.event.Event.{Event}
-use Rattle.monk_history.specs.declared.event.Event.TheVariants.{Resume}
-use Rattle.std.proofs.lemmas.Bool.Decides.{nat_tests}
+use Rattle.monk_history.specs.declared.event.Next.{Next, TheVariants.Until as UntilSeat}
 
 -- seat s is among these waits, with a predicate that holds
 abbrev AwaitsAmong : Object → List ℕ → ℕ → List (ℕ × ℕ) → Type 0

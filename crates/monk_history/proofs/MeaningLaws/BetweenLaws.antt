@@ -3,21 +3,18 @@ use Rattle.std.proofs.Common.{◌≡◌, ℕ, ◌+◌, ◌<◌, true, false, ◌
 use Rattle.std.proofs.Common.{List, [], ◌∷◌, ◌++◌}
 use Rattle.std.proofs.Common.{length, get_or, ◌-◌, take, sym, ap, subst, ◌∙◌, arith, zero, suc}
 use Rattle.std.proofs.Common.{◌⊎◌, inl, inr, ⊎_elim}
-use Rattle.std.proofs.lemmas.{List.Folds.list_any-append, Option.slice_get_within, Option.slice_get-get_or}
-use Rattle.std.specs.{Prelude.nat_lt, Prelude.slice_get, Prelude.is_some}
-use Rattle.monk_kinds.specs.Names.{rules_named}
-use Rattle.monk_kinds.specs.declared.name.KindName.{KindName}
-use Rattle.monk_history.proofs.MeaningLaws.{StepLaws.legal_situation-push}
-use Rattle.monk_history.proofs.MeaningLaws.HandOverLaws.{take_more_by_one, legal_take, due_resumes, or_left}
-use Rattle.monk_history.proofs.MeaningLaws.HandOverLaws.{or_right}
-use Rattle.monk_history.specs.Meaning.{Monitor.Monitor, Situation.Situation, Situation.situation, Step.after}
-use Rattle.monk_history.specs.Meaning.{Waiters.serves, Waiters.waiters, Conditions.condition}
-use Rattle.monk_history.specs.Meaning.{Legal.IsLegal, Promises.is_among, Promises.is_served}
+use Rattle.std.proofs.lemmas.{List.Folds.list_any-append, Bool.Decides.nat_tests}
+use Rattle.std.proofs.lemmas.Option.{slice_get_within, slice_get-get_or}
+use Rattle.std.specs.Prelude.{nat_lt, slice_get, is_some}
+use Rattle.monk_kinds.specs.{Names.rules_named, declared.name.KindName.KindName}
+use Rattle.monk_history.proofs.MeaningLaws.HandOverLaws.{take_more_by_one, legal_take, due_resumes, or_left, or_right}
+use Rattle.monk_history.proofs.MeaningLaws.StepLaws.{legal_situation-push}
+use Rattle.monk_history.specs.Meaning.{Monitor.Monitor, Step.after, Waiters.serves, Waiters.waiters}
+use Rattle.monk_history.specs.Meaning.{Conditions.condition, Legal.IsLegal, Promises.is_among, Promises.is_served}
 use Rattle.monk_history.specs.Meaning.{Promises.puts_callers_last, Promises.GoesOnBetween, Promises.NobodyComesBetween}
-use Rattle.monk_history.specs.Meaning.Reasons.{IsAllowedIn, fits_turn, is_open}
-use Rattle.monk_history.specs.Meaning.Events.{via_of}
+use Rattle.monk_history.specs.Meaning.{Reasons.IsAllowedIn, Reasons.fits_turn, Reasons.is_open, Events.via_of}
+use Rattle.monk_history.specs.Meaning.Situation.{Situation, situation}
 use Rattle.monk_history.specs.declared.event.{Event.Event, Turn.TheVariants.Due, From3.TheVariants.Waiter as FromWaiter}
-use Rattle.std.proofs.lemmas.Bool.Decides.{nat_tests}
 
 -- seat w is in the waiter queue while some seat has the monitor, or the turn is due to it from there
 abbrev IsOnItsWay : ℕ → Situation → Type 0

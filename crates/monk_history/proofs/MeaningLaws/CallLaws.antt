@@ -1,17 +1,13 @@
 -- What a caller knows of the turn lets it call; and which seats are queued
 use Rattle.std.proofs.Common.{◌≡◌, ℕ, ◌+◌, ◌<◌, Bool, true, false, cond, ◌&&◌, not, refl, ap, ◌∙◌, arith, eq-eqb, [], List}
-use Rattle.std.specs.Prelude.{nat_lt}
+use Rattle.std.{specs.Prelude.nat_lt, proofs.lemmas.Bool.Decides.nat_tests}
 use Rattle.monk_history.specs.Meaning.{Monitor.Monitor, Monitor.data_of, Situation.Situation, Situation.situation}
 use Rattle.monk_history.specs.Meaning.{Turn.turn, Turn.is_inside, Signallers.is_empty, Untils.untils, Untils.ready_of}
-use Rattle.monk_history.specs.Meaning.{Reasons.is_owned_by, Reasons.is_open, Release.MayCall}
+use Rattle.monk_history.specs.Meaning.{Reasons.is_owned_by, Reasons.is_open, Release.MayCall, Events.returns_at_once}
 use Rattle.monk_history.specs.Meaning.Standing.{has_turn, in_queues, is_queued, IsPlaced}
-use Rattle.monk_history.specs.Meaning.Events.{returns_at_once}
 use Rattle.monk_history.specs.declared.event.{Via.TheVariants.Free, Via.TheVariants.Handed, Next.TheVariants.Stay}
+use Rattle.monk_history.specs.declared.event.Event.{Event, TheVariants.Enter, TheVariants.SignalWait}
 use Rattle.monk_history.specs.declared.event.Turn.{Turn, TheVariants.Open, TheVariants.Owned}
-use Rattle.monk_history.specs.declared.event.Event.{Event}
-use Rattle.monk_history.specs.declared.event.Event.TheVariants.{Enter}
-use Rattle.monk_history.specs.declared.event.Event.TheVariants.{SignalWait}
-use Rattle.std.proofs.lemmas.Bool.Decides.{nat_tests}
 
 owned : (s : ℕ) (t : Turn) → t ≡ Owned s → is_owned_by s t ≡ true
 owned s t e = ap (is_owned_by s) e ∙ eq-eqb s s refl

@@ -1,21 +1,15 @@
 -- When a seat may enter or resume; what may be called; what a seat knows about itself
 use Rattle.std.proofs.Common.{◌≡◌, ◌≢◌, ℕ, Bool, true, cond, ◌&&◌, ◌||◌, not, ◌==◌, List, [], ◌∷◌, refl}
-use Rattle.std.proofs.Common.{arith}
 use Rattle.std.specs.Prelude.{◌↔◌, filter, nat_lt}
-use Rattle.std.{specs.List.list_any}
-use Rattle.monk_history.specs.Meaning.{Monitor.Monitor, Situation.Situation}
-use Rattle.monk_history.specs.Meaning.{Entry.IsQuiet, Entry.IsAtDoor, Entry.IsDueFrom}
-use Rattle.monk_history.specs.Meaning.Release.{MayCallIn, as_called}
-use Rattle.monk_history.specs.Meaning.Reasons.{IsAllowed, IsAllowedIn}
+use Rattle.std.{proofs.Common.arith, proofs.lemmas.Bool.Decides.nat_tests, specs.List.list_any}
+use Rattle.monk_history.specs.Meaning.{Monitor.Monitor, Situation.Situation, Release.MayCallIn, Release.as_called}
+use Rattle.monk_history.specs.Meaning.{Reasons.IsAllowed, Reasons.IsAllowedIn, Counts.events_of, Events.seat_of}
+use Rattle.monk_history.specs.Meaning.Entry.{IsQuiet, IsAtDoor, IsDueFrom}
 use Rattle.monk_history.specs.Meaning.Turn.{is_enter_of, is_exit_of, inside_of, is_inside}
-use Rattle.monk_history.specs.Meaning.Counts.{events_of}
-use Rattle.monk_history.specs.Meaning.Events.{seat_of}
-use Rattle.monk_history.specs.declared.event.Via.TheVariants.{Free, Handed}
-use Rattle.monk_history.specs.declared.event.From3.{From3}
+use Rattle.monk_history.specs.declared.event.{Via.TheVariants.Free, Via.TheVariants.Handed, From3.From3}
 use Rattle.monk_history.specs.declared.event.Event.{Event}
 use Rattle.monk_history.specs.declared.event.Event.TheVariants.{Enter, Act, Leave, Wait, Signal, SignalLeave, Until}
 use Rattle.monk_history.specs.declared.event.Event.TheVariants.{Resume, SignalAll, SignalWait}
-use Rattle.std.proofs.lemmas.Bool.Decides.{nat_tests}
 
 -- `enter s free` is allowed if, and only if, the seat is at the door and nobody could be chosen
 pub enters_free : (m : Monitor) (h : List Event) (s : ℕ) → IsAllowed m h (Enter s Free) ↔ (IsAtDoor m h s × IsQuiet m h)

@@ -2,29 +2,23 @@
 use Rattle.std.proofs.Common.{◌≡◌, ℕ, ◌+◌, ◌<◌, Bool, true, false, cond, ◌&&◌, ◌||◌, Some, None}
 use Rattle.std.proofs.Common.{List, [], ◌∷◌, ◌++◌}
 use Rattle.std.proofs.Common.{◌-◌, take, drop, refl, sym, ap, subst, ◌∙◌, arith, zero, suc, ◌⊎◌}
-use Rattle.std.proofs.Common.{take-append-drop}
-use Rattle.std.specs.{Prelude.nat_lt, Prelude.slice_get}
+use Rattle.std.proofs.{Common.take-append-drop, lemmas.Bool.Decides.nat_tests}
+use Rattle.std.specs.Prelude.{nat_lt, slice_get}
 use Rattle.monk_kinds.specs.{Kind.IsKind, Names.rules_named}
-use Rattle.monk_kinds.specs.declared.name.KindName.{KindName}
-use Rattle.monk_kinds.specs.declared.mode.{Rules.Rules, Mode.Mode}
-use Rattle.monk_history.proofs.MeaningLaws.{HistoryLaws.history_induction, TurnLaws.turn-push, TurnLaws.data-push}
+use Rattle.monk_kinds.specs.declared.{name.KindName.KindName, mode.Rules.Rules, mode.Mode.Mode}
+use Rattle.monk_history.proofs.MeaningLaws.{HistoryLaws.history_induction, LegalLaws.legal_front, LegalLaws.legal_last}
 use Rattle.monk_history.proofs.MeaningLaws.ModeLaws.{IsBlocking, legal_emptied, legal_unsignalled}
+use Rattle.monk_history.proofs.MeaningLaws.TurnLaws.{turn-push, data-push}
 use Rattle.monk_history.proofs.MeaningLaws.StepLaws.{situation-none, legal_situation-push}
-use Rattle.monk_history.proofs.MeaningLaws.LegalLaws.{legal_front, legal_last}
-use Rattle.monk_history.specs.Meaning.{Situation.Situation, Situation.situation, Step.after}
-use Rattle.monk_history.specs.Meaning.{Waiters.serves}
-use Rattle.monk_history.specs.Meaning.{Conditions.condition, Turn.turn, Legal.IsLegal}
-use Rattle.monk_history.specs.Meaning.Events.{next_of, has_conditions, has_signaller_queue}
-use Rattle.monk_history.specs.Meaning.Events.{returns_at_once, is_non_blocking, answered_act}
-use Rattle.monk_history.specs.Meaning.Monitor.{Monitor}
-use Rattle.monk_history.specs.Meaning.Reasons.{IsAllowed, IsAllowedIn, fits_turn}
+use Rattle.monk_history.specs.Meaning.{Step.after, Waiters.serves, Conditions.condition, Turn.turn, Legal.IsLegal}
+use Rattle.monk_history.specs.Meaning.{Monitor.Monitor, Reasons.IsAllowed, Reasons.IsAllowedIn, Reasons.fits_turn}
+use Rattle.monk_history.specs.Meaning.Events.{next_of, has_conditions, has_signaller_queue, returns_at_once}
+use Rattle.monk_history.specs.Meaning.Events.{is_non_blocking, answered_act}
 use Rattle.monk_history.specs.Meaning.Promises.{is_blocking, hands_over, has_hoares_rule, is_among, IsHandedTo}
 use Rattle.monk_history.specs.Meaning.Promises.{HoaresRule}
+use Rattle.monk_history.specs.Meaning.Situation.{Situation, situation}
 use Rattle.monk_history.specs.declared.event.{Turn.TheVariants.Due, From3.From3, From3.TheVariants.Waiter as FromWaiter}
-use Rattle.monk_history.specs.declared.event.Next.TheVariants.{Waiter}
-use Rattle.monk_history.specs.declared.event.Event.{Event}
-use Rattle.monk_history.specs.declared.event.Event.TheVariants.{Resume}
-use Rattle.std.proofs.lemmas.Bool.Decides.{nat_tests}
+use Rattle.monk_history.specs.declared.event.{Next.TheVariants.Waiter, Event.Event, Event.TheVariants.Resume}
 
 -- the front of a history up to an event, and that event
 take_next : {X : Type 0} (xs : List X) (i : ℕ) (x : X) → slice_get xs i ≡ Some x → take (suc i) xs ≡ take i xs ++ x ∷ []

@@ -1,16 +1,13 @@
 -- What a mode does to the choice
 use Rattle.std.proofs.Common.{◌≡◌, ◌<◌, ◌≤◌, true, false, List, []}
-use Rattle.std.proofs.Common.{ap, arith}
-use Rattle.monk_kinds.specs.Kind.{IsKind}
+use Rattle.std.proofs.{Common.ap, Common.arith, lemmas.Bool.Decides.nat_tests}
 use Rattle.monk_kinds.specs.declared.mode.{Rules.Rules, Mode.TheVariants.Blocking, Mode.TheVariants.NonBlocking}
-use Rattle.monk_history.proofs.MeaningLaws.{StepLaws.situation-none}
-use Rattle.monk_history.proofs.MeaningLaws.QueueSeats.{legal_induction}
-use Rattle.monk_history.specs.Meaning.{Monitor.Monitor, Situation.Situation, Situation.situation, Step.after}
-use Rattle.monk_history.specs.Meaning.{Reasons.IsAllowedIn, Legal.IsLegal}
-use Rattle.monk_history.specs.Meaning.Events.{has_conditions, has_signaller_queue}
-use Rattle.monk_history.specs.Meaning.Events.{returns_at_once, is_non_blocking}
+use Rattle.monk_kinds.specs.Kind.{IsKind}
+use Rattle.monk_history.proofs.MeaningLaws.{StepLaws.situation-none, QueueSeats.legal_induction}
+use Rattle.monk_history.specs.Meaning.{Monitor.Monitor, Step.after, Reasons.IsAllowedIn, Legal.IsLegal}
+use Rattle.monk_history.specs.Meaning.Events.{has_conditions, has_signaller_queue, returns_at_once, is_non_blocking}
+use Rattle.monk_history.specs.Meaning.Situation.{Situation, situation}
 use Rattle.monk_history.specs.declared.event.Event.{Event}
-use Rattle.std.proofs.lemmas.Bool.Decides.{nat_tests}
 
 -- the rules of a non-blocking kind
 pub record IsNonBlocking (k : Rules) : Type 0 where

@@ -1,29 +1,24 @@
 -- Where seats are after one more event, and what is counted
 use Rattle.std.proofs.Common.{◌≡◌, ◌≢◌, ℕ, ◌+◌, ◌≤◌, Bool, true, false, cond, ◌&&◌, ◌||◌, not, ◌==◌, Option, Some, None}
 use Rattle.std.proofs.Common.{List, [], ◌∷◌, ◌++◌, refl, sym, ap, subst, ◌∙◌, arith}
-use Rattle.std.proofs.lemmas.Bool.{false≢true, cases_lt}
+use Rattle.std.proofs.lemmas.Bool.{false≢true, cases_lt, Decides.nat_tests}
 use Rattle.std.specs.{Prelude.is_some, Option.option_map_or}
 use Rattle.monk_kinds.specs.declared.mode.Rules.{Rules}
 use Rattle.monk_history.proofs.MeaningLaws.{LegalLaws.legal-push, StandingLaws.legal_placed, QueueCounts.times-append}
-use Rattle.monk_history.proofs.MeaningLaws.TurnLaws.{turn-push, inside-push}
-use Rattle.monk_history.proofs.MeaningLaws.QueueSeats.{times_filter}
-use Rattle.monk_history.proofs.MeaningLaws.TestLaws.{and_left, and_right}
-use Rattle.monk_history.proofs.MeaningLaws.ReleaseLaws.{serves_times, caller_signals}
+use Rattle.monk_history.proofs.MeaningLaws.{QueueSeats.times_filter, TestLaws.and_left, TestLaws.and_right}
 use Rattle.monk_history.proofs.MeaningLaws.CountLaws.{events_of-push, length-events_of-push, enters_of-push}
 use Rattle.monk_history.proofs.MeaningLaws.CountLaws.{granted_of-push}
-use Rattle.monk_history.specs.Meaning.{Monitor.Monitor, Situation.Situation, Situation.situation}
-use Rattle.monk_history.specs.Meaning.{Legal.IsLegal, Counts.chooses_seat, Counts.grants}
-use Rattle.monk_history.specs.Meaning.Reasons.{is_in_turn, IsAllowedIn}
-use Rattle.monk_history.specs.Meaning.Reasons.{IsAllowed}
+use Rattle.monk_history.proofs.MeaningLaws.TurnLaws.{turn-push, inside-push}
+use Rattle.monk_history.proofs.MeaningLaws.ReleaseLaws.{serves_times, caller_signals}
+use Rattle.monk_history.specs.Meaning.{Monitor.Monitor, Legal.IsLegal, Counts.chooses_seat, Counts.grants}
+use Rattle.monk_history.specs.Meaning.Reasons.{is_in_turn, IsAllowedIn, IsAllowed}
+use Rattle.monk_history.specs.Meaning.Events.{seat_of, next_of, is_stay, is_way_out, via_of, steps_back}
+use Rattle.monk_history.specs.Meaning.Choice.{Queues, queues_at, may_choose, may_signal, must_stay}
 use Rattle.monk_history.specs.Meaning.Moves.{parks, StandsAfter, CountsAfter}
+use Rattle.monk_history.specs.Meaning.Situation.{Situation, situation}
 use Rattle.monk_history.specs.Meaning.Standing.{times, has_turn, in_queues, IsPlaced}
 use Rattle.monk_history.specs.Meaning.Turn.{turn_by, is_enter_of, is_exit_of, is_inside}
-use Rattle.monk_history.specs.Meaning.Choice.{Queues, queues_at, may_choose, may_signal, must_stay}
-use Rattle.monk_history.specs.Meaning.Events.{seat_of, next_of, is_stay, is_way_out, via_of}
-use Rattle.monk_history.specs.Meaning.Events.{steps_back}
-use Rattle.monk_history.specs.declared.event.Next.{Next}
-use Rattle.monk_history.specs.declared.event.Event.{Event}
-use Rattle.std.proofs.lemmas.Bool.Decides.{nat_tests}
+use Rattle.monk_history.specs.declared.event.{Next.Next, Event.Event}
 
 -- what one more event counts
 pub counts_after : (h : List Event) (e : Event) → CountsAfter h e

@@ -1,31 +1,26 @@
 -- The choice by the path of a mode is the choice by the wish rules
 use Rattle.std.proofs.Common.{◌≡◌, ℕ, Bool, true, false, cond, List, [], ◌∷◌, ◌++◌}
 use Rattle.std.proofs.Common.{take, refl, sym, ap, ◌∙◌, arith}
+use Rattle.std.proofs.lemmas.Bool.{false≢true, Decides.nat_tests}
 use Rattle.std.specs.Prelude.{nat_le, slice_get}
-use Rattle.std.proofs.lemmas.Bool.{false≢true}
-use Rattle.monk_kinds.specs.Kind.{IsKind}
 use Rattle.monk_kinds.specs.declared.mode.{Rules.Rules, Mode.Mode, Mode.TheVariants.Blocking}
 use Rattle.monk_kinds.specs.declared.mode.{Mode.TheVariants.NonBlocking, Mode.TheVariants.QuasiBlocking}
-use Rattle.monk_kinds.specs.declared.mode.{Mode.TheVariants.ImmediateReturn, Mode.TheVariants.Automatic}
-use Rattle.monk_kinds.specs.declared.mode.Pick.{Pick}
+use Rattle.monk_kinds.specs.declared.mode.{Mode.TheVariants.ImmediateReturn, Mode.TheVariants.Automatic, Pick.Pick}
+use Rattle.monk_kinds.specs.Kind.{IsKind}
 use Rattle.monk_history.proofs.MeaningLaws.{ReleaseLaws.caller_apart, StandingLaws.legal_placed}
 use Rattle.monk_history.proofs.MeaningLaws.{QueueCounts.times-append}
+use Rattle.monk_history.proofs.MeaningLaws.QueueSeats.{front_absent, legal_sorted, sorted_queues}
 use Rattle.monk_history.proofs.MeaningLaws.ModeLaws.{IsNonBlocking, non_blocking, legal_alone, IsBlocking}
 use Rattle.monk_history.proofs.MeaningLaws.ModeLaws.{legal_emptied, legal_unsignalled}
-use Rattle.monk_history.proofs.MeaningLaws.QueueSeats.{front_absent, legal_sorted, sorted_queues}
 use Rattle.monk_history.specs.Meaning.{Monitor.Monitor, Situation.situation, Waiters.serves, Untils.ready_of}
 use Rattle.monk_history.specs.Meaning.{Standing.times, Release.MayCall, Release.choice_of, Legal.IsLegal}
-use Rattle.monk_history.specs.Meaning.Signallers.{is_empty, signals}
-use Rattle.monk_history.specs.Meaning.Wish.{choice_by}
-use Rattle.monk_history.specs.Meaning.Paths.{keeps_signallers, single_choice, equal_choice, served_choice}
-use Rattle.monk_history.specs.Meaning.Choice.{Queues, queues_at, is_front, must_stay}
+use Rattle.monk_history.specs.Meaning.{Signallers.is_empty, Signallers.signals, Wish.choice_by}
 use Rattle.monk_history.specs.Meaning.Events.{seat_of, has_conditions, has_signaller_queue}
-use Rattle.monk_history.specs.declared.event.Next.{Next}
-use Rattle.monk_history.specs.declared.event.Next.TheVariants.{Stay}
+use Rattle.monk_history.specs.Meaning.Choice.{Queues, queues_at, is_front, must_stay}
+use Rattle.monk_history.specs.Meaning.Paths.{keeps_signallers, single_choice, equal_choice, served_choice}
+use Rattle.monk_history.specs.declared.event.{Next.Next, Next.TheVariants.Stay, Event.Event, Event.TheVariants.Signal}
 use Rattle.monk_history.specs.declared.event.From3.TheVariants.{Waiter as FromWaiter, Signaller as FromSignaller}
 use Rattle.monk_history.specs.declared.event.From3.TheVariants.{Until as FromUntil}
-use Rattle.monk_history.specs.declared.event.Event.{Event, TheVariants.Signal}
-use Rattle.std.proofs.lemmas.Bool.Decides.{nat_tests}
 
 -- a choice by what it reads of the queues
 stay_choice : (k : Rules) (ws ss rs : List ℕ) (s : ℕ) (b : Bool) (known : Bool) (wish : Pick) → IsNonBlocking k

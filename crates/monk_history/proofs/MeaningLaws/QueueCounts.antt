@@ -2,23 +2,21 @@
 use Rattle.std.proofs.Common.{◌≡◌, ◌≢◌, ℕ, ◌+◌, ◌<◌, ◌≤◌, zero, suc, Bool, true, false, cond, ◌&&◌, ◌||◌, not}
 use Rattle.std.proofs.Common.{◌==◌, Option, Some, None, List, [], ◌∷◌, ◌++◌, length, drop, refl, ap}
 use Rattle.std.proofs.Common.{◌∙◌, arith, map, ⊎_elim, eq-eqb, ◌⊎◌}
-use Rattle.std.proofs.lemmas.Bool.{false≢true, cases_lt, eqb-true, Decides.eqb_tells}
+use Rattle.std.proofs.lemmas.Bool.{false≢true, cases_lt, eqb-true, Decides.eqb_tells, Decides.nat_tests}
 use Rattle.std.specs.Prelude.{filter}
 use Rattle.monk_kinds.specs.declared.mode.Rules.{Rules}
 use Rattle.monk_object.specs.Object.{Object}
 use Rattle.monk_history.proofs.MeaningLaws.{TestLaws.and_left, TestLaws.and_right, ConditionLaws.served_front}
-use Rattle.monk_history.specs.Meaning.{Untils.ready_of, Turn.turn_by, Choice.is_front, Choice.may_choose}
+use Rattle.monk_history.specs.Meaning.{Untils.ready_of, Turn.turn_by, Waiters.served_at, Waiters.serves}
 use Rattle.monk_history.specs.Meaning.Reasons.{is_open, is_due, is_owned_by, is_condition}
-use Rattle.monk_history.specs.Meaning.Waiters.{served_at, serves}
-use Rattle.monk_history.specs.Meaning.Standing.{times, times_in_conditions, has_turn}
-use Rattle.monk_history.specs.Meaning.Conditions.{is_at, waiting_by, served_of, served_by}
 use Rattle.monk_history.specs.Meaning.Events.{seat_of, waits_on, signals_on, is_waiter, is_signaller, is_stay, is_until}
 use Rattle.monk_history.specs.Meaning.Events.{has_conditions}
-use Rattle.monk_history.specs.declared.event.{From3.From3, Event.Event}
+use Rattle.monk_history.specs.Meaning.Choice.{is_front, may_choose}
+use Rattle.monk_history.specs.Meaning.Conditions.{is_at, waiting_by, served_of, served_by}
+use Rattle.monk_history.specs.Meaning.Standing.{times, times_in_conditions, has_turn}
+use Rattle.monk_history.specs.declared.event.{From3.From3, Event.Event, Turn.Turn}
 use Rattle.monk_history.specs.declared.event.Next.{Next}
 use Rattle.monk_history.specs.declared.event.Next.TheVariants.{Stay, Entry, Waiter, Signaller, Until as UntilSeat}
-use Rattle.monk_history.specs.declared.event.Turn.{Turn}
-use Rattle.std.proofs.lemmas.Bool.Decides.{nat_tests}
 
 pub times-append : (s : ℕ) (xs ys : List ℕ) → times s (xs ++ ys) ≡ times s xs + times s ys
 times-append s [] ys = omega arith

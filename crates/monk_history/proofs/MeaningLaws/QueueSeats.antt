@@ -1,24 +1,18 @@
 -- Which queues a kind has, and which numbers are in them
 use Rattle.std.proofs.Common.{◌≡◌, ℕ, ◌+◌, ◌<◌, ◌≤◌, zero, suc, Bool, true, false, cond, ◌==◌, rules}
 use Rattle.std.proofs.Common.{List, [], ◌∷◌, sym, ap, subst, arith, map, ⊎_elim}
-use Rattle.std.proofs.lemmas.Bool.{false≢true, cases_lt}
+use Rattle.std.proofs.lemmas.Bool.{false≢true, cases_lt, Decides.nat_tests}
 use Rattle.std.specs.Prelude.{filter, nat_lt}
-use Rattle.monk_kinds.specs.declared.mode.{Mode.Mode}
-use Rattle.monk_kinds.specs.declared.mode.{Rules.Rules}
+use Rattle.monk_kinds.specs.declared.mode.{Mode.Mode, Rules.Rules}
 use Rattle.monk_object.specs.Object.{Object}
 use Rattle.monk_history.proofs.MeaningLaws.{HistoryLaws.history_induction, LegalLaws.legal_front, LegalLaws.legal_last}
-use Rattle.monk_history.proofs.MeaningLaws.{WishLaws.IsQueuesOf}
-use Rattle.monk_history.proofs.MeaningLaws.StepLaws.{situation-none, legal_situation-push}
-use Rattle.monk_history.specs.Meaning.{Monitor.Monitor, Situation.Situation, Situation.situation, Step.after}
-use Rattle.monk_history.specs.Meaning.{Choice.queues_at}
-use Rattle.monk_history.specs.Meaning.{Choice.is_front, Legal.IsLegal}
+use Rattle.monk_history.proofs.MeaningLaws.{WishLaws.IsQueuesOf, StepLaws.situation-none, StepLaws.legal_situation-push}
+use Rattle.monk_history.specs.Meaning.{Monitor.Monitor, Step.after, Choice.queues_at, Choice.is_front, Legal.IsLegal}
+use Rattle.monk_history.specs.Meaning.{Standing.times, Standing.times_in_conditions, Untils.ready_of}
+use Rattle.monk_history.specs.Meaning.Events.{seat_of, has_conditions, has_signaller_queue}
+use Rattle.monk_history.specs.Meaning.Situation.{Situation, situation}
 use Rattle.monk_history.specs.Meaning.Reasons.{is_in_range, is_offered, IsAllowedIn}
-use Rattle.monk_history.specs.Meaning.Standing.{times, times_in_conditions}
-use Rattle.monk_history.specs.Meaning.Events.{seat_of, has_conditions}
-use Rattle.monk_history.specs.Meaning.Events.{has_signaller_queue}
-use Rattle.monk_history.specs.Meaning.Untils.{ready_of}
 use Rattle.monk_history.specs.declared.event.Event.{Event}
-use Rattle.std.proofs.lemmas.Bool.Decides.{nat_tests}
 
 -- what holds for the situation before any event, and is kept by what is allowed, holds for each legal history
 pub legal_induction : (m : Monitor) (P : Situation → Type 0) → P (situation m [])

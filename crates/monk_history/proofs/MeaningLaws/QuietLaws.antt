@@ -1,25 +1,21 @@
 -- If entry is chosen, nobody could be chosen from a queue, unless somebody is known to wait for entry
 use Rattle.std.proofs.Common.{◌≡◌, ◌≢◌, ℕ, Bool, true, false, cond, not, Option, Some, None, List, [], ◌∷◌, ◌++◌}
 use Rattle.std.proofs.Common.{drop, map, refl, ap, ◌∙◌, arith}
-use Rattle.std.{specs.Prelude.filter, proofs.lemmas.Bool.false≢true}
-use Rattle.monk_kinds.specs.declared.mode.Pick.{Pick}
-use Rattle.monk_kinds.specs.declared.mode.Rules.{Rules}
+use Rattle.std.{specs.Prelude.filter, proofs.lemmas.Bool.false≢true, proofs.lemmas.Bool.Decides.nat_tests}
+use Rattle.monk_kinds.specs.declared.mode.{Pick.Pick, Rules.Rules}
 use Rattle.monk_object.specs.Object.{Object}
-use Rattle.monk_history.proofs.MeaningLaws.{StepLaws.legal_situation-push}
 use Rattle.monk_history.proofs.MeaningLaws.QueueSeats.{legal_sorted, sorted_queues}
-use Rattle.monk_history.specs.Meaning.{Monitor.Monitor, Monitor.data_after, Situation.Situation, Situation.situation}
-use Rattle.monk_history.specs.Meaning.{Choice.Queues, Choice.queues_at, Choice.must_stay, Reasons.IsAllowed}
-use Rattle.monk_history.specs.Meaning.{Legal.IsLegal, Release.as_called, Entry.IsQuiet, Entry.AdmitsUnknown}
-use Rattle.monk_history.specs.Meaning.Signallers.{is_empty}
-use Rattle.monk_history.specs.Meaning.Wish.{inner_waiters, choice_by}
-use Rattle.monk_history.specs.Meaning.Events.{next_of, is_until, is_stay}
-use Rattle.monk_history.specs.Meaning.Untils.{waits_until, chooses, ready_of}
-use Rattle.monk_history.specs.declared.event.Next.{Next}
-use Rattle.monk_history.specs.declared.event.Next.TheVariants.{Stay, Entry}
+use Rattle.monk_history.proofs.MeaningLaws.StepLaws.{legal_situation-push}
+use Rattle.monk_history.specs.Meaning.{Situation.Situation, Situation.situation, Reasons.IsAllowed, Legal.IsLegal}
+use Rattle.monk_history.specs.Meaning.{Release.as_called, Entry.IsQuiet, Entry.AdmitsUnknown, Signallers.is_empty}
+use Rattle.monk_history.specs.Meaning.{Wish.inner_waiters, Wish.choice_by, Events.next_of, Events.is_until}
+use Rattle.monk_history.specs.Meaning.{Events.is_stay, Untils.waits_until, Untils.chooses, Untils.ready_of}
+use Rattle.monk_history.specs.Meaning.Choice.{Queues, queues_at, must_stay}
+use Rattle.monk_history.specs.Meaning.Monitor.{Monitor, data_after}
+use Rattle.monk_history.specs.declared.event.Next.{Next, TheVariants.Stay, TheVariants.Entry}
 use Rattle.monk_history.specs.declared.event.Event.{Event}
 use Rattle.monk_history.specs.declared.event.Event.TheVariants.{Enter, Act, Leave, Wait, Signal, SignalLeave, Until}
 use Rattle.monk_history.specs.declared.event.Event.TheVariants.{Resume, SignalAll, SignalWait}
-use Rattle.std.proofs.lemmas.Bool.Decides.{nat_tests}
 
 -- both inner queues are empty
 record IsAlone (none empty : Bool) : Type 0 where

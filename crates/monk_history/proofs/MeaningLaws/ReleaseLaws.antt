@@ -1,32 +1,28 @@
 -- A call that may be made, with the choice by the wish rules, is allowed; and which seats are in the queues
 use Rattle.std.proofs.Common.{◌≡◌, ℕ, ◌+◌, ◌<◌, ◌≤◌, Bool, true, false, cond, ◌&&◌, Option, Some, None}
 use Rattle.std.proofs.Common.{List, [], ◌∷◌, ◌++◌, take, refl, ap, arith, map, rules}
-use Rattle.std.proofs.lemmas.Bool.{cases_lt}
+use Rattle.std.proofs.lemmas.Bool.{cases_lt, Decides.nat_tests}
 use Rattle.std.specs.{Prelude.nat_lt, List.list_all}
 use Rattle.monk_kinds.specs.{declared.mode.Rules.Rules, declared.mode.Pick.Pick, Kind.IsKind}
 use Rattle.monk_history.proofs.MeaningLaws.{TestLaws.and_left, TestLaws.and_right, StandingLaws.legal_placed}
-use Rattle.monk_history.proofs.MeaningLaws.WishLaws.{choice_permitted, signal_permitted}
 use Rattle.monk_history.proofs.MeaningLaws.QueueCounts.{times-append, times_served}
 use Rattle.monk_history.proofs.MeaningLaws.QueueSeats.{IsSorted, signal_conditions, legal_sorted, sorted_queues}
 use Rattle.monk_history.proofs.MeaningLaws.QueueSeats.{IsSeated, lt_of, lt_to, seat_in_range, legal_seated, front_times}
-use Rattle.monk_history.proofs.MeaningLaws.QueueSeats.{front_absent, times_le_conditions, some_true}
-use Rattle.monk_history.proofs.MeaningLaws.QueueSeats.{times_filter}
+use Rattle.monk_history.proofs.MeaningLaws.QueueSeats.{front_absent, times_le_conditions, some_true, times_filter}
+use Rattle.monk_history.proofs.MeaningLaws.WishLaws.{choice_permitted, signal_permitted}
 use Rattle.monk_history.specs.Meaning.{Monitor.Monitor, Waiters.served_at, Waiters.serves, Signallers.is_empty}
-use Rattle.monk_history.specs.Meaning.{Signallers.signals, Wish.choice_by, Legal.IsLegal}
-use Rattle.monk_history.specs.Meaning.Situation.{Situation, situation}
-use Rattle.monk_history.specs.Meaning.Release.{MayCallIn, with_next, choice_of}
-use Rattle.monk_history.specs.Meaning.Reasons.{is_in_range, is_condition}
-use Rattle.monk_history.specs.Meaning.Reasons.{is_in_turn, is_in_place, is_right_reply}
+use Rattle.monk_history.specs.Meaning.{Signallers.signals, Wish.choice_by, Legal.IsLegal, Situation.Situation}
+use Rattle.monk_history.specs.Meaning.{Situation.situation, Release.MayCallIn, Release.with_next, Release.choice_of}
+use Rattle.monk_history.specs.Meaning.Events.{seat_of, named_seat, signals_on, is_stay}
+use Rattle.monk_history.specs.Meaning.Choice.{Queues, queues_at, may_choose, may_signal}
+use Rattle.monk_history.specs.Meaning.Reasons.{is_in_range, is_condition, is_in_turn, is_in_place, is_right_reply}
 use Rattle.monk_history.specs.Meaning.Reasons.{IsAllowedIn}
 use Rattle.monk_history.specs.Meaning.Standing.{times, times_in_conditions, IsPlaced}
-use Rattle.monk_history.specs.Meaning.Choice.{Queues, queues_at, may_choose, may_signal}
-use Rattle.monk_history.specs.Meaning.Events.{seat_of, named_seat, signals_on, is_stay}
 use Rattle.monk_history.specs.declared.event.Next.{Next}
 use Rattle.monk_history.specs.declared.event.Next.TheVariants.{Stay, Entry, Waiter, Signaller, Until as UntilSeat}
 use Rattle.monk_history.specs.declared.event.Event.{Event}
 use Rattle.monk_history.specs.declared.event.Event.TheVariants.{Enter, Act, Leave, Wait, Signal, SignalLeave, Until}
 use Rattle.monk_history.specs.declared.event.Event.TheVariants.{Resume, SignalAll, SignalWait}
-use Rattle.std.proofs.lemmas.Bool.Decides.{nat_tests}
 
 -- each number in the queues of a release is that of a seat
 pub record IsWithin (seats : ℕ) (q : Queues) : Type 0 where

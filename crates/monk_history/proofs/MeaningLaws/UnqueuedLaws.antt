@@ -2,16 +2,15 @@
 -- see.
 use Rattle.std.proofs.Common.{◌≡◌, ℕ, ◌<◌, ◌-◌, Bool, true, false, ◌&&◌, not, List, [], ◌∷◌, ◌++◌, length, refl}
 use Rattle.std.proofs.Common.{sym, ap, ◌∙◌, arith, length-append}
-use Rattle.std.specs.Prelude.{nat_lt, slice_get}
+use Rattle.std.{specs.Prelude.nat_lt, specs.Prelude.slice_get, proofs.lemmas.Bool.Decides.nat_tests}
 use Rattle.monk_history.proofs.MeaningLaws.{HistoryLaws.history_induction, LegalLaws.get_last}
 use Rattle.monk_history.proofs.MeaningLaws.{StandingLaws.legal_placed, StepLaws.situation-none, TurnLaws.turn-push}
 use Rattle.monk_history.proofs.MeaningLaws.CallLaws.{may_enter_free, may_enter_handed, queued_is}
 use Rattle.monk_history.specs.Meaning.{Legal.IsLegal, Monitor.Monitor, Release.MayCall, Signallers.is_empty}
 use Rattle.monk_history.specs.Meaning.{Situation.situation, Standing.is_queued}
-use Rattle.monk_history.specs.Meaning.{Turn.turn, Turn.turn_after, Turn.is_inside}
-use Rattle.monk_history.specs.declared.event.{Event.Event, Event.TheVariants.Enter, Turn.TheVariants.Open}
-use Rattle.monk_history.specs.declared.event.Via.TheVariants.{Free, Handed}
-use Rattle.std.proofs.lemmas.Bool.Decides.{nat_tests}
+use Rattle.monk_history.specs.Meaning.Turn.{turn, turn_after, is_inside}
+use Rattle.monk_history.specs.declared.event.{Turn.TheVariants.Open, Via.TheVariants.Free, Via.TheVariants.Handed}
+use Rattle.monk_history.specs.declared.event.Event.{Event, TheVariants.Enter}
 
 inside_by : (a b : Bool) → (a && not (nat_lt 0 0)) ≡ b → b ≡ false → a ≡ false
 inside_by a b h e = grind (arith, nat_tests)

@@ -1,17 +1,14 @@
 -- Which of its words comes next in the line of an event, or none.
 use Rattle.std.proofs.Common.{◌≡◌, ℕ, ◌≤◌, false, List, ◌∷◌, Some, Ok, Err, ap, ◌∙◌, arith, rules}
-use Rattle.std.proofs.lemmas.Bool.{le-leb}
-use Rattle.std.specs.{Prelude.codes}
+use Rattle.std.{proofs.lemmas.Bool.le-leb, proofs.lemmas.Bool.Decides.nat_tests, specs.Prelude.codes}
 use Rattle.monk_history.specs.declared.text.fault.Flaw.TheVariants as flaw
-use Rattle.monk_history.proofs.TextLaws.EventReading.{via_again, from_again, next_word_again, verb_of_again}
 use Rattle.monk_history.proofs.TextLaws.WordReaders.{one_of_again}
-use Rattle.monk_history.specs.Text.{via_word, from_word, Words.Word, Words.one_of, Words.is_next}
-use Rattle.monk_history.specs.Text.Reading.{vias, froms, next_word, all_next_words, verb_word, verb_version}
-use Rattle.monk_history.specs.Text.Reading.{verbs_of}
-use Rattle.monk_history.specs.declared.event.{Via.Via, From3.From3}
+use Rattle.monk_history.proofs.TextLaws.EventReading.{via_again, from_again, next_word_again, verb_of_again}
 use Rattle.monk_history.specs.declared.text.{next_word.NextWord.NextWord, verb.Verb.Verb}
+use Rattle.monk_history.specs.declared.event.{Via.Via, From3.From3}
+use Rattle.monk_history.specs.Text.{via_word, from_word, Words.Word, Words.one_of, Words.is_next}
+use Rattle.monk_history.specs.Text.Reading.{vias, froms, next_word, all_next_words, verb_word, verb_version, verbs_of}
 use Rattle.monk_kinds.specs.Names.{with_text}
-use Rattle.std.proofs.lemmas.Bool.Decides.{nat_tests}
 
 one_of-next : {A : Type 0} (word : A → Word) (values : List A) (x : A) (ws rest : List Word)
     → with_text word values (word x) ≡ Some x → ws ≡ word x ∷ rest → one_of word values ws ≡ Ok (x, rest)

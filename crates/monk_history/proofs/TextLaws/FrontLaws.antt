@@ -1,18 +1,17 @@
 -- A line at the front of some bytes, and what the lines of these bytes are.
 use Rattle.std.proofs.Common.{◌≡◌, ◌==◌, ℕ, ◌≤◌, Bool, true, cond, List, [], ◌∷◌, ◌++◌, Result, Ok, Err, refl, sym, ap, ◌∙◌}
+use Rattle.std.proofs.lemmas.{Bool.le-leb, Bool.Decides.nat_tests, List.Splits.join_with_byte-slice_split}
 use Rattle.std.proofs.Common.{append_assoc, drop, Option, arith}
-use Rattle.std.proofs.lemmas.{Bool.le-leb, List.Splits.join_with_byte-slice_split}
 use Rattle.std.specs.List.{slice_split, onto_first, list_all, join_with_byte}
 use Rattle.std.specs.Prelude.{not, nat_le, IfSome}
 use Rattle.monk_history.proofs.TextLaws.{EventReading.event_again, LineSteps.some_part}
-use Rattle.monk_history.proofs.TextLaws.LineCuts.{cut_at, cut_none, words_of-words, no_end_in_join}
 use Rattle.monk_history.proofs.TextLaws.PlainWords.{event_are_words, some_word}
+use Rattle.monk_history.proofs.TextLaws.LineCuts.{cut_at, cut_none, words_of-words, no_end_in_join}
+use Rattle.monk_history.specs.declared.{event.Event.Event, text.fault.Flaw.Flaw}
 use Rattle.monk_history.specs.Text.{event_words, first_version, EventFits, Places.StandsAt, Reading.event_at}
+use Rattle.monk_history.specs.Text.Words.{Word, Taken, Reads}
 use Rattle.monk_history.specs.Text.Lines.{line, lines_of, is_unended, BeginsWith, taken_alone, IsReadAs, IsAtFront}
 use Rattle.monk_history.specs.Text.Lines.{flaw_at, with_line_number}
-use Rattle.monk_history.specs.Text.Words.{Word, Taken, Reads}
-use Rattle.monk_history.specs.declared.{event.Event.Event, text.fault.Flaw.Flaw}
-use Rattle.std.proofs.lemmas.Bool.Decides.{nat_tests}
 
 -- ---- the lines of bytes that begin with a line, or have none, whatever follows them
 

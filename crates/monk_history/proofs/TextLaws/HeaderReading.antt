@@ -1,17 +1,15 @@
 -- A header is read from the words that it is written as, and a header that is written is read again.
 use Rattle.std.proofs.Common.{lit<, ◌≡◌, ℕ, ◌≤◌, List, [], ◌∷◌, ◌++◌, Some, Ok, refl, sym, ap, subst, arith}
-use Rattle.std.specs.Prelude.{codes}
-use Rattle.std.{specs.Fmt.decimal}
+use Rattle.std.{specs.Prelude.codes, specs.Fmt.decimal, proofs.lemmas.Bool.Decides.nat_tests}
 use Rattle.monk_kinds.proofs.PublicLaws.{kind_again}
 use Rattle.monk_kinds.specs.{declared.name.KindName.KindName, Names.kind_word, Names.with_text, Names.kinds}
 use Rattle.monk_object.specs.{declared.name.ObjectName.ObjectName, Names.object_word, Names.objects}
 use Rattle.monk_history.specs.Text.Words.{◌>>=◌, Word, Taken, number_at, with_rest, one_of, literal_at, end_at}
-use Rattle.monk_history.proofs.TextLaws.{ObjectVersions.none_newer}
 use Rattle.monk_history.proofs.TextLaws.WordReaders.{bind_ok, ok_is, number_takes, number_again, one_of_takes}
 use Rattle.monk_history.proofs.TextLaws.WordReaders.{one_of_again, literal_takes, end_takes}
+use Rattle.monk_history.proofs.TextLaws.ObjectVersions.{none_newer}
 use Rattle.monk_history.specs.Text.{Heading, heading, part_words, header_words, IsHeading}
 use Rattle.monk_history.specs.Text.Reading.{heading_of, parts_at, header_at}
-use Rattle.std.proofs.lemmas.Bool.Decides.{nat_tests}
 
 pub object_again : (o : ObjectName) → with_text object_word objects (object_word o) ≡ Some o
 object_again o = grind arith

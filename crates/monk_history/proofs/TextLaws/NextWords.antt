@@ -1,13 +1,12 @@
 -- What is at the front of a line is its next word if the line ends after it, or if a byte 32 follows.
 use Rattle.std.proofs.Common.{◌≡◌, ◌==◌, ◌≢◌, ℕ, ◌+◌, ◌-◌, ◌*◌, ◌^◌, ◌<◌, ◌≤◌, Bool, true, false, List, []}
 use Rattle.std.proofs.Common.{◌∷◌, ◌++◌, length, take, drop, refl, sym, ap, ◌∙◌, append_assoc, arith}
-use Rattle.std.proofs.Math.Seq.{take-append_seam, drop-append_seam}
-use Rattle.std.proofs.lemmas.{Fmt.decimal_digit, Fmt.decimal_step, Slice.Eq.bytes_eq-Decides}
+use Rattle.std.proofs.lemmas.{Fmt.decimal_digit, Fmt.decimal_step, Slice.Eq.bytes_eq-Decides, Bool.Decides.nat_tests}
 use Rattle.std.proofs.lemmas.List.{append-nil, Splits.join_with_byte-slice_split}
+use Rattle.std.proofs.Math.Seq.{take-append_seam, drop-append_seam}
 use Rattle.std.specs.{Char.IsAsciiDigit, Fmt.decimal, List.join_with_byte}
 use Rattle.monk_history.proofs.TextLaws.LineCuts.{cut_at, cut_none, no_space, IsWord-decimal}
 use Rattle.monk_history.specs.Text.Words.{Word, words_of, is_unbroken, is_next}
-use Rattle.std.proofs.lemmas.Bool.Decides.{nat_tests}
 
 pub words-last : (word : Word) → is_unbroken word ≡ true → words_of (word ++ []) ≡ word ∷ []
 words-last word plain = ap words_of (append-nil word) ∙ cut_none (λ b. b == 32) word plain

@@ -1,12 +1,10 @@
 -- A text that goes out page by page.
 use Rattle.std.proofs.Common.{◌≡◌, ℕ, ◌+◌, ◌<◌, take, get_or, List, [], ◌∷◌, ◌++◌, Option, sym, ap, ◌∙◌, length, append_assoc}
-use Rattle.std.proofs.KnownBytes.{Appends-trans}
-use Rattle.std.proofs.lemmas.{List.append-nil, List.take_more, Grind.flat_map-append}
+use Rattle.std.proofs.{KnownBytes.Appends-trans, Common.arith}
+use Rattle.std.proofs.lemmas.{List.append-nil, List.take_more, Grind.flat_map-append, Bool.Decides.nat_tests}
 use Rattle.std.specs.{List.AllByRecursion, List.flat_map, Io.KnownBytes.Appends}
-use Rattle.monk_history.specs.Text.{EventFits, Heading, IsHeading, event_words, header_words, text, Lines.line}
 use Rattle.monk_history.specs.declared.event.Event.{Event}
-use Rattle.std.proofs.lemmas.Bool.Decides.{nat_tests}
-use Rattle.std.proofs.Common.{arith}
+use Rattle.monk_history.specs.Text.{EventFits, Heading, IsHeading, event_words, header_words, text, Lines.line}
 
 -- the writer got a part of the text, and the page has the rest
 pub record IsOnItsWay (before now : Option (List ℕ)) (page text : List ℕ) : Type 0 where

@@ -1,11 +1,10 @@
 -- What is at a place of some bytes, part by part.
 use Rattle.std.proofs.Common.{◌≡◌, ◌≢◌, ℕ, ◌+◌, ◌-◌, ◌*◌, ◌^◌, ◌<◌, ◌≤◌, List, [], ◌∷◌, ◌++◌, length, get_or, drop, refl, sym}
 use Rattle.std.proofs.Common.{ap, subst, ◌∙◌, append_assoc, arith}
-use Rattle.std.proofs.lemmas.{List.drop_more, Nat.le_bytes_4, Nat.pow-add, Nat.pow_below}
+use Rattle.std.proofs.lemmas.{List.drop_more, Nat.le_bytes_4, Nat.pow-add, Nat.pow_below, Bool.Decides.nat_tests}
 use Rattle.std.specs.{Char.IsAsciiDigit, Fmt.decimal, Int.w32, Int.from_le_bytes, Int.to_le_bytes}
 use Rattle.monk_history.proofs.TextLaws.NextWords.{digit-first, digit-more}
 use Rattle.monk_history.specs.Text.Places.{StandsAt}
-use Rattle.std.proofs.lemmas.Bool.Decides.{nat_tests}
 
 -- one after the other
 pub stands_then : {bytes x y : List ℕ} {p q r : ℕ} → StandsAt bytes p x q → StandsAt bytes q y r

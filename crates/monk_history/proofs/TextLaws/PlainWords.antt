@@ -1,20 +1,19 @@
 -- No word of an event or of a header has a byte 32 or 10.
 use Rattle.std.proofs.Common.{ℕ, ◌≤◌, ◌<◌, length, refl, arith}
-use Rattle.std.specs.Fmt.{decimal}
+use Rattle.std.{specs.Fmt.decimal, proofs.lemmas.Bool.Decides.nat_tests}
 use Rattle.monk_history.specs.declared.event.From3.TheVariants as from
 use Rattle.monk_history.specs.declared.event.Next.TheVariants as next
-use Rattle.monk_history.proofs.TextLaws.LineCuts.{AreWords, IsWord, IsWord-decimal}
 use Rattle.monk_history.proofs.TextLaws.ObjectVersions.{none_newer}
-use Rattle.monk_history.specs.Text.{Heading, next_words, event_words, header_words, IsHeading, NextFits, EventFits}
-use Rattle.monk_history.specs.declared.event.Via.TheVariants.{Free, Handed}
+use Rattle.monk_history.proofs.TextLaws.LineCuts.{AreWords, IsWord, IsWord-decimal}
 use Rattle.monk_history.specs.declared.event.Next.{Next}
 use Rattle.monk_history.specs.declared.event.Next.TheVariants.{Stay, Entry, Waiter, Signaller}
+use Rattle.monk_history.specs.declared.event.Via.TheVariants.{Free, Handed}
 use Rattle.monk_history.specs.declared.event.Event.{Event}
 use Rattle.monk_history.specs.declared.event.Event.TheVariants.{Enter, Act, Leave, Wait, Signal, SignalLeave, Until}
 use Rattle.monk_history.specs.declared.event.Event.TheVariants.{Resume, SignalAll, SignalWait}
+use Rattle.monk_history.specs.Text.{Heading, next_words, event_words, header_words, IsHeading, NextFits, EventFits}
 use Rattle.monk_kinds.specs.{declared.name.KindName.KindName, Names.kind_word}
 use Rattle.monk_object.specs.{declared.name.ObjectName.ObjectName, Names.object_word}
-use Rattle.std.proofs.lemmas.Bool.Decides.{nat_tests}
 
 pub decimal_word : (n : ℕ) → n ≤ 255 → IsWord (decimal n)
 decimal_word n le = IsWord-decimal n (omega arith)

@@ -1,12 +1,10 @@
 -- An upgraded header has a line for each event.
 use Rattle.std.proofs.Common.{◌≡◌, ℕ, ◌≤◌, ◌<◌, Bool, true, false, cond, List, [], ◌∷◌, refl, arith}
+use Rattle.std.proofs.lemmas.Bool.{leb-true, leb-false, le-leb, Decides.nat_tests}
 use Rattle.std.specs.Prelude.{nat_le}
-use Rattle.std.proofs.lemmas.Bool.{leb-true, leb-false, le-leb}
-use Rattle.monk_history.specs.declared.event.Event.{Event}
-use Rattle.monk_history.specs.Limits.{all_events_version}
-use Rattle.monk_history.specs.Text.{Heading, upgraded_heading, first_version, is_writable, HasText}
 use Rattle.monk_history.proofs.TextLaws.ObjectVersions.{every_event_named}
-use Rattle.std.proofs.lemmas.Bool.Decides.{nat_tests}
+use Rattle.monk_history.specs.{declared.event.Event.Event, Limits.all_events_version}
+use Rattle.monk_history.specs.Text.{Heading, upgraded_heading, first_version, is_writable, HasText}
 
 has_line : (e : Event) → first_version e ≤ all_events_version
 has_line e = grind (arith, nat_tests)

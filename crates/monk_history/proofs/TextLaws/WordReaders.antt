@@ -1,14 +1,13 @@
 -- A value is taken from the words that it is written as, and a value that is written so is taken again.
 use Rattle.std.proofs.Common.{◌≡◌, ℕ, ◌≤◌, ◌<◌, ◌^◌, Bool, true, false, cond, List, [], ◌∷◌, Option, Some, None, Result}
 use Rattle.std.proofs.Common.{Ok, Err, refl, sym, ap, subst, ◌∙◌, arith}
-use Rattle.std.proofs.lemmas.{Bool.leb-true, Slice.Eq.bytes_eq-Decides}
+use Rattle.std.proofs.lemmas.{Bool.leb-true, Bool.Decides.nat_tests, Slice.Eq.bytes_eq-Decides}
 use Rattle.std.specs.{Prelude.filter, Fmt.decimal, Str.bytes_eq}
 use Rattle.monk_history.specs.declared.text.fault.Flaw.TheVariants as flaw
 use Rattle.monk_history.specs.Text.Words.{◌>>=◌, Word, number_at, with_rest, one_of, literal_at, end_at}
 use Rattle.monk_history.proofs.TextLaws.{NumberWords.is_number_decimal, NumberWords.is_number_too_great, LineCuts.both}
 use Rattle.monk_history.specs.declared.text.fault.Flaw.{Flaw}
 use Rattle.monk_kinds.{specs.Names.with_text, proofs.PublicLaws.found_is, proofs.PublicLaws.some_is}
-use Rattle.std.proofs.lemmas.Bool.Decides.{nat_tests}
 
 -- the value of a step that did not fail
 pub bind_ok : {A B E : Type 0} (r : Result A E) (f : A → Result B E) (y : B) → (r >>= f) ≡ Ok y

@@ -1,17 +1,13 @@
 -- A log's first line is read from the words that it is written as, and one that is written is read again.
 use Rattle.std.proofs.Common.{lit<, ◌≡◌, ℕ, ◌≤◌, ◌==◌, Bool, true, cond, List, [], ◌∷◌, Option, Some, None, Ok}
-use Rattle.std.proofs.Common.{refl, arith}
-use Rattle.std.specs.Prelude.{codes}
-use Rattle.std.specs.Fmt.{decimal}
-use Rattle.std.proofs.lemmas.Bool.{eqb-true, eq-eqb}
-use Rattle.monk_object.specs.declared.name.ObjectName.{ObjectName}
-use Rattle.monk_object.specs.Names.{object_word, objects}
+use Rattle.std.{proofs.Common.refl, proofs.Common.arith, proofs.lemmas.Bool.eqb-true, proofs.lemmas.Bool.eq-eqb}
+use Rattle.std.{proofs.lemmas.Bool.Decides.nat_tests, specs.Prelude.codes, specs.Fmt.decimal}
+use Rattle.monk_object.specs.{declared.name.ObjectName.ObjectName, Names.object_word, Names.objects}
 use Rattle.monk_history.specs.Text.Words.{◌>>=◌, Word, Taken, number_at, one_of, with_rest, literal_at, end_at}
 use Rattle.monk_history.proofs.PublicLaws.Texts.{bind_ok, number_takes, number_again, literal_takes, end_takes}
 use Rattle.monk_history.proofs.PublicLaws.Texts.{object_again, one_of_takes, one_of_again}
 use Rattle.monk_logs.specs.Log.{LogHeading, IsLogHeading, log_heading, log_header_words, log_version}
 use Rattle.monk_logs.specs.Log.Reading.{log_heading_of, log_header_at}
-use Rattle.std.proofs.lemmas.Bool.Decides.{nat_tests}
 
 -- the steps of a first line, each with those after it
 abbrev at_end : ℕ → ℕ → ℕ → ObjectName → ℕ → Unit {0} × List Word → Taken LogHeading

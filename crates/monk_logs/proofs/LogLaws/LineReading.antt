@@ -1,19 +1,18 @@
 -- A line is read from the words that it is written as, and a line that is written is read again.
 use Rattle.std.proofs.Common.{arith, lit<, ◌≡◌, ℕ, ◌≤◌, List, [], ◌∷◌, ◌++◌, Some, Ok, refl, ap, subst}
-use Rattle.std.specs.Fmt.{decimal}
-use Rattle.std.proofs.lemmas.List.{append-nil}
+use Rattle.std.{specs.Fmt.decimal, proofs.lemmas.List.append-nil, proofs.lemmas.Bool.Decides.nat_tests}
 use Rattle.monk_kinds.specs.Names.{with_text}
-use Rattle.monk_history.specs.Text.Reading.{act_at}
 use Rattle.monk_history.specs.Text.Words.{◌>>=◌, Word, Taken, number_at, one_of, end_at}
-use Rattle.monk_history.proofs.PublicLaws.Texts.{act_again, act_takes}
-use Rattle.monk_history.proofs.PublicLaws.Texts.{bind_ok, ok_is, number_takes, number_again, one_of_takes, one_of_again, end_takes}
+use Rattle.monk_history.proofs.PublicLaws.Texts.{act_again, act_takes, bind_ok, ok_is, number_takes, number_again}
+use Rattle.monk_history.proofs.PublicLaws.Texts.{one_of_takes, one_of_again, end_takes}
+use Rattle.monk_history.specs.Text.Reading.{act_at}
+use Rattle.monk_logs.specs.declared.text.verb.LineVerb.TheVariants as verb
 use Rattle.monk_logs.specs.Log.{log_words, LineFits}
 use Rattle.monk_logs.specs.Log.Reading.{log_verb_word, log_verbs, line_after, log_line_at}
 use Rattle.monk_logs.specs.declared.text.line.LogLine.{LogLine}
-use Rattle.monk_logs.specs.declared.text.line.LogLine.TheVariants.{Enter, Resume, Lapse, Leave, Wait, Signal, Broadcast, Until, Act}
+use Rattle.monk_logs.specs.declared.text.line.LogLine.TheVariants.{Enter, Resume, Lapse, Leave, Wait, Signal, Broadcast}
+use Rattle.monk_logs.specs.declared.text.line.LogLine.TheVariants.{Until, Act}
 use Rattle.monk_logs.specs.declared.text.verb.LineVerb.{LineVerb}
-use Rattle.monk_logs.specs.declared.text.verb.LineVerb.TheVariants as verb
-use Rattle.std.proofs.lemmas.Bool.Decides.{nat_tests}
 
 verb_again : (v : LineVerb) → with_text log_verb_word log_verbs (log_verb_word v) ≡ Some v
 verb_again v = grind arith

@@ -1,16 +1,15 @@
 -- A play's first line is read from the words that it is written as, and one that is written is read again.
 use Rattle.std.proofs.Common.{lit<, ◌≡◌, ℕ, ◌≤◌, Bool, true, cond, List, [], ◌∷◌, Some, None, Ok, refl, sym, ap}
 use Rattle.std.proofs.Common.{◌∙◌, arith}
-use Rattle.std.proofs.lemmas.Bool.{leb-true, le-leb}
+use Rattle.std.proofs.lemmas.Bool.{leb-true, le-leb, Decides.nat_tests}
 use Rattle.std.specs.{Prelude.nat_le, Prelude.codes, Fmt.decimal}
 use Rattle.monk_history.specs.Text.Words.{◌>>=◌, Word, Taken, number_at, with_rest, literal_at, end_at}
 use Rattle.monk_history.proofs.PublicLaws.Texts.{parts_take, parts_again, bind_ok, none_newer, number_takes}
 use Rattle.monk_history.proofs.PublicLaws.Texts.{number_again, literal_takes, end_takes}
 use Rattle.monk_history.specs.Limits.{least_budget, most_budget}
 use Rattle.monk_history.specs.Text.{Heading, IsHeading, Reading.parts_at}
-use Rattle.monk_world.specs.Play.{play_words, Reading.play_head, Reading.play_head_of, Reading.play_head_at}
 use Rattle.monk_world.specs.declared.play.head.PlayHead.{PlayHead}
-use Rattle.std.proofs.lemmas.Bool.Decides.{nat_tests}
+use Rattle.monk_world.specs.Play.{play_words, Reading.play_head, Reading.play_head_of, Reading.play_head_at}
 
 pub record HeadFits (h : PlayHead) : Type 0 where
   pub header_fits : IsHeading h.header

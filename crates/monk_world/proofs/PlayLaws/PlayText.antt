@@ -1,19 +1,18 @@
 -- The laws of the text of a play: what is read has that text, and what has a text is read from it.
 use Rattle.std.specs.Prelude.{nat_le, ◌&&◌, Bool, true}
 use Rattle.std.proofs.Common.{◌≡◌, ℕ, ◌≤◌, List, [], ◌∷◌, length, Result, Ok, Err, refl, ap, subst, ◌∙◌, arith}
-use Rattle.std.specs.{List.AllByRecursion, Global.Vec}
+use Rattle.std.{specs.List.AllByRecursion, specs.Global.Vec, proofs.lemmas.Bool.Decides.nat_tests}
 use Rattle.monk_history.proofs.PublicLaws.Formats as formats
 use Rattle.monk_history.{specs.declared.text.fault.ReadFault.ReadFault, specs.Text.Heading, specs.Text.Lines.Gives}
 use Rattle.monk_history.{specs.Text.Lines.lines_of, specs.Text.Lines.lines_at, proofs.PublicLaws.Formats.IsFormat}
-use Rattle.monk_world.proofs.PlayLaws.PlainPlays.{command_are_words, head_are_words}
 use Rattle.monk_world.proofs.PlayLaws.CommandReading.{FitsVersion, command_takes, command_again}
 use Rattle.monk_world.proofs.PlayLaws.PlayHeads.{HeadFits, head_words, head_takes, head_again}
+use Rattle.monk_world.proofs.PlayLaws.PlainPlays.{command_are_words, head_are_words}
 use Rattle.monk_world.specs.{Records.AreToldIn, StepTable.command_version}
+use Rattle.monk_world.specs.declared.{command.Command.Command, play.head.PlayHead.PlayHead}
 use Rattle.monk_world.specs.Play.{HasPlayText, CommandFits, command_words, playtext}
 use Rattle.monk_world.specs.Play.Reading.{Play, play, play_view, play_head, play_head_at, command_under}
 use Rattle.monk_world.specs.Play.Reading.{play_of_reading, play_at}
-use Rattle.monk_world.specs.declared.{command.Command.Command, play.head.PlayHead.PlayHead}
-use Rattle.std.proofs.lemmas.Bool.Decides.{nat_tests}
 
 heads : IsFormat head_words play_head_at HeadFits
 heads = record { takes = head_takes; again = head_again; plain = head_are_words; some = λ h. omega arith }

@@ -1,11 +1,10 @@
-use Rattle.std.proofs.{Common.Result, Common.Ok, Common.subst, lemmas.Result.err_from_is_err_and}
+use Rattle.std.proofs.lemmas.{Result.err_from_is_err_and, Grind.common_steps}
+use Rattle.std.proofs.Common.{Result, Ok, subst, arith}
 use Rattle.monk_history.specs.declared.text.fault.ReadFault.{ReadFault}
 use Rattle.monk_history.specs.Text.{Heading, Pieces.IsHeadOf, Reading.header_at}
 use Rattle.monk_audit.proofs.stage.open.Goals as goal
-use Rattle.monk_audit.proofs.PieceLaws.{never_both, no_object, opened_from, refused_from}
 use Rattle.monk_audit.proofs.stage.open.Goals.{In_ok-header}
-use Rattle.std.proofs.lemmas.Grind.{common_steps}
-use Rattle.std.proofs.Common.{arith}
+use Rattle.monk_audit.proofs.PieceLaws.{never_both, no_object, opened_from, refused_from}
 
 pub returns-in_err-header-clause-fault : goal.returns-in_err-header-clause-fault
 returns-in_err-header-clause-fault c =

@@ -1,8 +1,7 @@
-use Rattle.std.proofs.Common.{subst, sym, arith}
+use Rattle.std.proofs.{Common.subst, Common.sym, Common.arith, lemmas.Grind.common_steps}
 use Rattle.monk_c.proofs.deal.open.Goals as goal
 use Rattle.monk_c.proofs.Dealing.{are_passes, as_many, is_made}
 use Rattle.monk_c.specs.{Dealing.ArePasses, Stands.RoomView}
-use Rattle.std.proofs.lemmas.Grind.{common_steps}
 
 pub returns-in-Some-clause-made : goal.returns-in-Some-clause-made
 returns-in-Some-clause-made g c =

@@ -1,7 +1,6 @@
-use Rattle.std.proofs.lemmas.Result.{IfOk-weaker}
-use Rattle.monk_commands.proofs.Completions.{exactly_misfit, exactly_open, statuses}
-use Rattle.monk_commands.proofs.Known.{on_known}
+use Rattle.std.proofs.{lemmas.Result.IfOk-weaker, lemmas.Grind.common_steps, Common.arith}
 use Rattle.monk_commands.proofs.completing.complete_stream.Goals as goal
+use Rattle.monk_commands.proofs.{Completions.exactly_misfit, Completions.exactly_open, Known.on_known}
 
 pub returns-clause-open : goal.returns-clause-open
 returns-clause-open g c =
@@ -18,7 +17,4 @@ returns-clause-misfit g c =
     c.complete_text.ensures.answer
 
 pub returns-clause-statuses : goal.returns-clause-statuses
-returns-clause-statuses g c =
-    IfOk-weaker c.complete_text.result _ _ (λ status a.
-    statuses c.args.kind c.in_ok-bytes.bytes.items status _ a)
-    c.complete_text.ensures.answer
+returns-clause-statuses g c = grind (arith, common_steps)

@@ -1,8 +1,7 @@
 use Rattle.std.proofs.Common.{◌≡◌, ◌+◌, ℕ, suc, arith, rules, subst}
-use Rattle.std.{specs.Prelude.string_bytes, proofs.lemmas.Option.slice_get-get_or}
+use Rattle.std.{specs.Prelude.string_bytes, proofs.lemmas.Option.slice_get-get_or, proofs.lemmas.Grind.common_steps}
 use Rattle.monk_commands.proofs.paging.page_answer.Goals as goal
-use Rattle.monk_commands.specs.{Paged.ArePaged}
-use Rattle.std.proofs.lemmas.Grind.{common_steps}
+use Rattle.monk_commands.specs.Paged.{ArePaged}
 
 pub loop-history-init : goal.loop-history-init
 loop-history-init c = record { articles = c.new-articles.ensures.bytes; status = omega arith }

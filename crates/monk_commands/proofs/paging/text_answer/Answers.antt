@@ -1,5 +1,5 @@
-use Rattle.std.proofs.Common.{◌≡◌, ◌≤◌, List, ℕ, Bool, true, false, ltb, Option, Result, Ok, Err, arith, refl, ltb-false, ltb-true}
-use Rattle.std.{specs.Prelude.string_bytes, proofs.lemmas.Result.IfOk-weaker}
+use Rattle.std.proofs.Common.{◌≡◌, ◌≤◌, List, ℕ, Bool, ltb, Option, Result, arith}
+use Rattle.std.proofs.{lemmas.Result.IfOk-weaker, lemmas.Bool.Decides.nat_tests, Common.rules}
 use Rattle.monk_draw.specs.{Window.is_behind, declared.window.Window.Window}
 use Rattle.monk_history.specs.{Meaning.Named.named_monitor, Text.Reading.History}
 use Rattle.monk_history.specs.{declared.text.fault.ReadFault.ReadFault}
@@ -14,20 +14,14 @@ use Rattle.monk_commands.specs.Shown.{IsAnsweredBy, IsShown, IsShownAs, last_sho
 module _ (f : HistoryForm) (w : Option Window) (x : History) (status : ℕ) (text : List ℕ) (few : status ≤ 1) where
   there : (b : Bool) → is_behind w (last_shown (verdict_of (named_monitor x.0) x.1) x.1) ≡ b
       → IsAnsweredBy f w (verdict_of (named_monitor x.0) x.1) x.0 x.1 status text → IsShownAs f w x.0 x.1 text
-  there true is a = absurd (omega (arith, (a.none is).0, few))
-  there false is a = (a.shown is).1
+  there b is a = grind (arith, nat_tests)
 
   fits : (b : Bool) → ltb (most x.0.object) x.0.size ≡ b → IsShown f w x status text → IsShownAs f w x.0 x.1 text
-  fits true is a = absurd (omega (arith, (a.too_big (ltb-true _ _ is)).0, few))
-  fits false is a = there _ refl (a.fits (ltb-false _ _ is))
+  fits b is a = grind (arith, nat_tests)
 
 part_of : (w : Option Window) (p : Paged) (r : Result History ReadFault) (status : ℕ) (text : List ℕ)
     → IsReading (IsShown (Article p.beside) w) r status text → status ≤ 1 → IsReadArticle w p.beside.now r text
-part_of w p (Ok x) status text a few = fits (Article p.beside) w x status text few _ refl a
-part_of w p (Err f) status text a few = absurd (omega (arith, a.0, few))
+part_of w p r status text a few = grind (arith, nat_tests)
 
 pub returns : goal.returns
-returns c =
-    IfOk-weaker c.shown_in_form.result _ _
-    (λ a is. part_of c.args.window c.args.history _ a.status (string_bytes a.text) is)
-    c.shown_in_form.ensures
+returns c = search (rules, IfOk-weaker, part_of)

@@ -1,4 +1,4 @@
-use Rattle.std.proofs.lemmas.Result.{IfOk-weaker}
+use Rattle.std.proofs.{lemmas.Result.IfOk-weaker, Common.rules}
 use Rattle.monk_commands.proofs.playing.play_stream.Goals as goal
 use Rattle.monk_commands.proofs.{Known.on_known, PlayExact.answer_of, PlayExact.exactly}
 use Rattle.monk_commands.specs.Played.{IsPlayed}
@@ -11,8 +11,4 @@ returns-clause-played g c =
     c.play_text.ensures.answer
 
 pub returns-clause-history : goal.returns-clause-history
-returns-clause-history g c =
-    IfOk-weaker c.play_text.result _ _ (λ status a.
-    on_known _ c.in_ok-bytes.bytes.items _ c.in_ok-bytes.ensures.bytes
-    (λ h budget cs t. (answer_of IsPlayed c.in_ok-bytes.bytes.items status _ h budget cs t a).1))
-    c.play_text.ensures.answer
+returns-clause-history g c = search (rules, IfOk-weaker, on_known, answer_of)

@@ -1,7 +1,8 @@
-use Rattle.std.{proofs.lemmas.Result.IfOk-weaker, specs.Io.KnownBytes.Appends}
+use Rattle.std.proofs.{lemmas.Result.IfOk-weaker, lemmas.Grind.common_steps, Common.arith}
+use Rattle.std.specs.Io.KnownBytes.{Appends}
 use Rattle.monk_history.specs.Text.Device.{inner_of}
 use Rattle.monk_commands.proofs.upgrading.upgrade_stream.Goals as goal
-use Rattle.monk_commands.proofs.{Known.on_known, Upgrades.again, Upgrades.exactly, Upgrades.statuses, Upgrades.upgraded}
+use Rattle.monk_commands.proofs.{Known.on_known, Upgrades.again, Upgrades.exactly, Upgrades.upgraded}
 
 pub returns-clause-histories : goal.returns-clause-histories
 returns-clause-histories g c =
@@ -20,11 +21,7 @@ returns-clause-upgraded g c =
     c.upgrade_text.ensures.answer
 
 pub returns-clause-again : goal.returns-clause-again
-returns-clause-again g c =
-    IfOk-weaker c.upgrade_text.result _ _ (λ status a. again status c.in_ok-bytes.bytes.items _ a.0 a.1)
-    c.upgrade_text.ensures.answer
+returns-clause-again g c = grind (arith, common_steps, IfOk-weaker, again)
 
 pub returns-clause-statuses : goal.returns-clause-statuses
-returns-clause-statuses g c =
-    IfOk-weaker c.upgrade_text.result _ _ (λ status a. statuses status c.in_ok-bytes.bytes.items a.0)
-    c.upgrade_text.ensures.answer
+returns-clause-statuses g c = grind (arith, common_steps)

@@ -1,5 +1,5 @@
-use Rattle.std.proofs.Common.{◌≡◌, ℕ, ◌+◌, ◌<◌, List, length, get_or, drop, add-one, map, refl}
-use Rattle.std.{specs.Prelude.fold, proofs.Math.Seq.drop-cons}
+use Rattle.std.proofs.Common.{◌≡◌, ℕ, ◌+◌, ◌<◌, List, length, get_or, drop, add-one, map, arith}
+use Rattle.std.{specs.Prelude.fold, proofs.Math.Seq.drop-cons, proofs.lemmas.Grind.common_steps}
 use Rattle.clap.specs.Words.{App, Rule, with_rule}
 use Rattle.monk_commands.proofs.words.command.Goals as goal
 use Rattle.monk_commands.specs.{Request.word_rule, declared.word.Word.Word}
@@ -11,9 +11,4 @@ words_more : (a b new : App) (rule : Rule) (ws : List Word) (i : ℕ) (w : Word)
 words_more a b new rule ws i w within so_far r is = rw (is, r, add-one) (rw (drop-cons ws i w within) at so_far)
 
 pub loop-word-preserved : goal.loop-word-preserved
-loop-word-preserved c = record {
-  is =
-      words_more _ _ _ _ c.args.words.now.words.now c.loop-word.word-index _ c.loop-word-test.true
-      c.loop-word.invariant.is c.arg.ensures.rule_is (c.in_ok-command.ensures.shape c.arg.ensures.own);
-  own = rw (c.in_ok-command.ensures.globals, c.loop-word.invariant.own, c.arg.ensures.own) refl;
-}
+loop-word-preserved c = grind (arith, common_steps)

@@ -1,9 +1,10 @@
 -- After the release gets the choice that the line shows, the line is judged as one with all known before it
 use Rattle.std.proofs.Common.{◌≡◌, ◌∙◌, Bool, true, false, cond, not, ◌&&◌, Some, None, refl, sym, ap}
 use Rattle.std.specs.Prelude.{◌==◌, Result, Ok, Err, IfOk, OnOk}
+use Rattle.std.proofs.{lemmas.Grind.common_steps, Common.arith}
 use Rattle.monk_history.specs.declared.event.Event.TheVariants as event
-use Rattle.monk_history.specs.Meaning.{Events.answered_act, Events.next_of, Monitor.Monitor}
-use Rattle.monk_history.specs.Meaning.{Reasons.reason_in, Release.with_next, Situation.Situation, Step.after}
+use Rattle.monk_history.specs.Meaning.{Events.answered_act, Events.next_of, Monitor.Monitor, Reasons.reason_in}
+use Rattle.monk_history.specs.Meaning.{Release.with_next, Situation.Situation, Step.after}
 use Rattle.monk_history.specs.declared.event.{Event.Event, Next.Next, Next.TheVariants.Stay}
 use Rattle.monk_logs.specs.declared.text.line.LogLine.{LogLine}
 use Rattle.monk_audit.specs.Replay.{replay_situation}
@@ -11,11 +12,8 @@ use Rattle.monk_completion.proofs.judging.line_told.Goals as goal
 use Rattle.monk_completion.proofs.judging.line_told.Goals.{then-is_lapse-via-then-is_lapse}
 use Rattle.monk_completion.proofs.judging.line_told.Goals.{then-is_lapse-via-else-is_lapse+then-refuses}
 use Rattle.monk_completion.proofs.ToldLaws.{told_goes, told_more}
-use Rattle.monk_completion.specs.{Blame.release_blame, declared.blame.Blame.Blame}
+use Rattle.monk_completion.specs.{Blame.release_blame, declared.blame.Blame.Blame, Told.is_lapse, Told.told_release}
 use Rattle.monk_completion.specs.Stand.{Stand, line_settled, line_told, monitor_in}
-use Rattle.monk_completion.specs.Told.{is_lapse, told_release}
-use Rattle.std.proofs.lemmas.Grind.{common_steps}
-use Rattle.std.proofs.Common.{arith}
 
 -- a release is no act, whatever it chooses
 no_act : (x : Next) (e : Event) → next_of e ≡ Some Stay → answered_act (with_next x e) ≡ None

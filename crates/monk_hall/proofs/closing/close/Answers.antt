@@ -1,8 +1,6 @@
-use Rattle.std.proofs.Common.{arith, ap}
+use Rattle.std.proofs.{Common.arith, Common.ap, lemmas.Grind.common_steps}
 use Rattle.monk_hall.proofs.closing.close.Goals as goal
-use Rattle.monk_hall.proofs.ClosingLaws.{ended_peeked, busy_unlooked}
-use Rattle.monk_hall.specs.{Tokens.Holder}
-use Rattle.std.proofs.lemmas.Grind.{common_steps}
+use Rattle.monk_hall.{proofs.ClosingLaws.ended_peeked, proofs.ClosingLaws.busy_unlooked, specs.Tokens.Holder}
 
 pub end-requires-clause-unqueued : goal.end-requires-clause-unqueued
 end-requires-clause-unqueued g c κs within = grind (arith, common_steps)

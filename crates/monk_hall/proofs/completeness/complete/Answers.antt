@@ -1,10 +1,9 @@
 use Rattle.std.proofs.Common.{◌≡◌, ◌+◌, All, List, length, take, arith, eq-eqb, sym, ap, subst, ◌∙◌}
-use Rattle.std.proofs.lemmas.{Bool.eqb-true, List.take_all}
+use Rattle.std.proofs.lemmas.{Bool.eqb-true, List.take_all, Grind.common_steps}
 use Rattle.monk_history.specs.Meaning.Counts.{events_of}
 use Rattle.monk_hall.proofs.completeness.complete.Goals as goal
 use Rattle.monk_hall.proofs.CompleteLaws.{KnowsItsOwn, holds_length, holds_only, made_by, one_made, one_known, some_fit}
 use Rattle.monk_hall.specs.Tokens.{Token}
-use Rattle.std.proofs.lemmas.Grind.{common_steps}
 
 one_more : goal.loop-pass-preserved
 one_more g c = grind (arith, common_steps, one_made, one_known, KnowsItsOwn)

@@ -1,6 +1,5 @@
-use Rattle.std.proofs.Common.{arith}
+use Rattle.std.proofs.{Common.arith, lemmas.Grind.common_steps}
 use Rattle.monk_hall.proofs.excluding.never_two_active.Goals as goal
-use Rattle.std.proofs.lemmas.Grind.{common_steps}
 
 pub never-requires-clause-tables : goal.never-requires-clause-tables
 never-requires-clause-tables g c κs within = grind (arith, common_steps)

@@ -1,23 +1,20 @@
 use Rattle.std.proofs.Common.{◌≡◌, ℕ, ◌<◌, Bool, true, ◌&&◌, Some, ◌∷◌, refl, sym, ap}
 use Rattle.std.proofs.Common.{subst, ◌∙◌, arith}
+use Rattle.std.proofs.lemmas.{Bool.Decides.nat_tests, Grind.common_steps}
 use Rattle.std.specs.{Prelude.nat_lt, List.list_all}
 use Rattle.monk_kinds.specs.declared.mode.Rules.{Rules}
 use Rattle.monk_object.specs.Object.{Object}
 use Rattle.atomic_table.specs.Seated.{TableId}
 use Rattle.monk_history.specs.declared.event.Next.TheVariants as next
-use Rattle.monk_history.specs.Meaning.{Counts.granted_of, Reasons.is_in_range}
-use Rattle.monk_history.specs.Meaning.Events.{named_seat, next_of}
+use Rattle.monk_history.specs.Meaning.{Counts.granted_of, Reasons.is_in_range, Events.named_seat, Events.next_of}
 use Rattle.monk_history.specs.declared.event.{Event.Event, Next.Next}
-use Rattle.monk_world.specs.Places.{back_turn, due_to}
 use Rattle.monk_world.specs.declared.{home.Home.Home, place.Place.TheVariants.Back}
+use Rattle.monk_world.specs.Places.{back_turn, due_to}
 use Rattle.monk_floor.specs.View.{FloorView}
 use Rattle.monk_hall.proofs.handing.go_home.Goals as goal
-use Rattle.monk_hall.proofs.{HandingLaws.chosen_due, HandingLaws.chosen_entry, HandingLaws.grants_by}
-use Rattle.monk_hall.specs.{Changes.home_at, Layout.word_count, Records.IsOne, Records.the}
-use Rattle.monk_hall.specs.{Tells.Me}
+use Rattle.monk_hall.proofs.HandingLaws.{chosen_due, chosen_entry, grants_by}
+use Rattle.monk_hall.specs.{Changes.home_at, Layout.word_count, Records.IsOne, Records.the, Tells.Me}
 use Rattle.monk_hall.specs.Handing.{seat_called_by, HasRecordedRelease}
-use Rattle.std.proofs.lemmas.Bool.Decides.{nat_tests}
-use Rattle.std.proofs.lemmas.Grind.{common_steps}
 
 -- ---- the seat that a release chose is one of the hall's
 

@@ -1,7 +1,6 @@
-use Rattle.std.proofs.Common.{arith}
+use Rattle.std.proofs.{Common.arith, lemmas.Grind.common_steps}
 use Rattle.monk_hall.proofs.handing.let_in.Goals as goal
 use Rattle.monk_hall.proofs.HandingLaws.{grants_by}
-use Rattle.std.proofs.lemmas.Grind.{common_steps}
 
 pub returns-then-waiting-eq1-clause-granted : goal.returns-then-waiting-eq1-clause-granted
 returns-then-waiting-eq1-clause-granted g c = grind (arith, common_steps, grants_by)

@@ -1,8 +1,7 @@
-use Rattle.std.proofs.Common.{arith, rules}
+use Rattle.std.proofs.{Common.arith, Common.rules, lemmas.Grind.common_steps}
 use Rattle.monk_hall.proofs.making.deal.Goals as goal
 use Rattle.monk_hall.proofs.{Dealing.fresh_next, Dealing.tokens_more, Reached.deals_next}
-use Rattle.monk_hall.specs.{Rule.setting_of}
-use Rattle.std.proofs.lemmas.Grind.{common_steps}
+use Rattle.monk_hall.specs.Rule.{setting_of}
 
 pub deal-seat-requires-after_bounds : goal.deal-seat-requires-after_bounds
 deal-seat-requires-after_bounds g c κs within =

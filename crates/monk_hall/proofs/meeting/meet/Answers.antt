@@ -1,11 +1,9 @@
 use Rattle.std.proofs.Common.{arith, ◌≡◌, List, ◌∷◌, [], refl, sym, ap, subst, ◌∙◌}
-use Rattle.monk_hall.proofs.meeting.meet.Goals as goal
-use Rattle.monk_hall.proofs.MeetLaws.{has_learned}
-use Rattle.monk_hall.proofs.Reached.{IsTwo, meets, compares, parts_again}
-use Rattle.monk_hall.specs.{Changes.view_after_join, Changes.view_after_compare, Rule.setting_of}
-use Rattle.monk_hall.specs.{Tokens.top}
-use Rattle.monk_hall.specs.Records.{View, IsOne, the, head, tail}
 use Rattle.std.proofs.lemmas.Grind.{common_steps}
+use Rattle.monk_hall.proofs.meeting.meet.Goals as goal
+use Rattle.monk_hall.proofs.{MeetLaws.has_learned, Reached.IsTwo, Reached.meets, Reached.compares, Reached.parts_again}
+use Rattle.monk_hall.specs.{Changes.view_after_join, Changes.view_after_compare, Rule.setting_of, Tokens.top}
+use Rattle.monk_hall.specs.Records.{View, IsOne, the, head, tail}
 
 pub join-requires-after_bounds : goal.join-requires-after_bounds
 join-requires-after_bounds g c κs within =

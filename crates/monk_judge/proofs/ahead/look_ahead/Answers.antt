@@ -1,12 +1,11 @@
 use Rattle.std.proofs.Common.{◌≡◌, ◌+◌, ◌-◌, ◌<◌, ◌≤◌, ◌∙◌, length, get_or, drop, refl, sym, ap, subst, arith}
-use Rattle.std.proofs.Math.ListN.{length-set, length-replicate, set}
+use Rattle.std.proofs.{Math.ListN.length-set, Math.ListN.length-replicate, Math.ListN.set, lemmas.Grind.common_steps}
 use Rattle.monk_logs.specs.{Log.line_seat, declared.text.line.LogLine.TheVariants.Enter}
 use Rattle.monk_judge.proofs.ahead.look_ahead.Goals as goal
 use Rattle.monk_judge.proofs.Covers.{rest_is}
 use Rattle.monk_judge.proofs.LinesAhead.{IsEndBy, each_kept, next_kept, nothing_next}
 use Rattle.monk_judge.specs.Ends.{IsEnd}
 use Rattle.monk_judge.specs.declared.wait_end.WaitEnd.TheVariants.{Never, Resumes}
-use Rattle.std.proofs.lemmas.Grind.{common_steps}
 
 pub loop-index-init : goal.loop-index-init
 loop-index-init c = record {

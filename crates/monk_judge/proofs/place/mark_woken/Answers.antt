@@ -1,7 +1,6 @@
-use Rattle.std.proofs.Common.{get_or-set_same, get_or-set_other, arith}
+use Rattle.std.proofs.{Common.get_or-set_same, Common.get_or-set_other, Common.arith, lemmas.Grind.common_steps}
 use borrow.Author.Count.{below_more}
 use Rattle.monk_judge.proofs.place.mark_woken.Goals as goal
-use Rattle.std.proofs.lemmas.Grind.{common_steps}
 
 pub loop-place-preserved : goal.loop-place-preserved
 loop-place-preserved c =

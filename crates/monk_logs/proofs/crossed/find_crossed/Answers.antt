@@ -1,7 +1,6 @@
-use Rattle.std.proofs.Common.{arith, false, get_or, reverse}
-use Rattle.monk_logs.proofs.CrossedLaws.{nobody_crossed, seat_more}
+use Rattle.std.proofs.{Common.arith, Common.false, Common.get_or, Common.reverse, lemmas.Grind.common_steps}
 use Rattle.monk_logs.proofs.crossed.find_crossed.Goals as goal
-use Rattle.std.proofs.lemmas.Grind.{common_steps}
+use Rattle.monk_logs.proofs.CrossedLaws.{nobody_crossed, seat_more}
 
 pub loop-seat-init : goal.loop-seat-init
 loop-seat-init c = record {

@@ -1,8 +1,7 @@
 use Rattle.std.proofs.Common.{◌+◌, ◌∙◌, ap, arith, refl, rules}
-use Rattle.std.proofs.lemmas.List.{length-set}
-use Rattle.monk_logs.proofs.CrossedLaws.{nothing_last, numbers_more}
+use Rattle.std.proofs.lemmas.{List.length-set, Grind.common_steps}
 use Rattle.monk_logs.proofs.crossed.last_numbers.Goals as goal
-use Rattle.std.proofs.lemmas.Grind.{common_steps}
+use Rattle.monk_logs.proofs.CrossedLaws.{nothing_last, numbers_more}
 
 pub loop-line-init : goal.loop-line-init
 loop-line-init c = record { number = refl; sized = refl; last = nothing_last 256 }

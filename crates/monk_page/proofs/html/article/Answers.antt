@@ -1,4 +1,5 @@
 use Rattle.std.proofs.Common.{◌≡◌, ◌∙◌, ℕ, List, Option, ap, ap₂, length, string_bytes, arith}
+use Rattle.std.proofs.lemmas.{Bool.Decides.nat_tests, Grind.common_steps}
 use Rattle.monk_draw.specs.Window.{last_of, not_shown, showable, shown_last}
 use Rattle.monk_draw.specs.declared.window.Window.{Window}
 use Rattle.monk_history.specs.{Text.Heading, declared.event.Event.Event}
@@ -6,8 +7,6 @@ use Rattle.monk_audit.specs.declared.verdict.Verdict.{Verdict}
 use Rattle.monk_tell.specs.Told.{account, forbidden_step}
 use Rattle.monk_page.proofs.html.article.Goals as goal
 use Rattle.monk_page.specs.{Html.window_json, Page.page_json}
-use Rattle.std.proofs.lemmas.Bool.Decides.{nat_tests}
-use Rattle.std.proofs.lemmas.Grind.{common_steps}
 
 -- the data of that span are those of the window
 same_data : (h : Heading) (es : List Event) (w : Option Window) (v : Verdict) (fault : Option ℕ) (count before last : ℕ)

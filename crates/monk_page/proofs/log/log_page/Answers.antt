@@ -1,9 +1,8 @@
 use Rattle.std.proofs.Common.{◌∙◌, arith}
-use Rattle.std.proofs.lemmas.Result.{IfOk-weaker}
+use Rattle.std.proofs.lemmas.{Result.IfOk-weaker, Grind.common_steps}
 use Rattle.monk_page.proofs.log.log_page.Goals as goal
 use Rattle.monk_page.proofs.{LogPlain.log_plain, WriteLaws.article_of}
 use Rattle.monk_page.specs.{Html.log_end, Html.nothing_told, Log.log_json}
-use Rattle.std.proofs.lemmas.Grind.{common_steps}
 
 pub returns : goal.returns
 unfolding log_end

@@ -1,10 +1,9 @@
 use Rattle.std.proofs.Common.{◌≡◌, ℕ, List, subst, sym, arith}
+use Rattle.std.proofs.lemmas.{Bool.Decides.nat_tests, Grind.common_steps}
 use Rattle.monk_judge.proofs.PublicLaws.{run_cut}
 use Rattle.monk_judge.specs.{Followed.behind_lines, Followed.telling, Judged.after_all, Run.IsRun, Run.Setting}
 use Rattle.monk_judge.specs.{Run.State, Shown.setting_of, Shown.state_of, declared.step.Step.Step}
 use Rattle.monk_page.proofs.log_data.lead.Goals as goal
-use Rattle.std.proofs.lemmas.Bool.Decides.{nat_tests}
-use Rattle.std.proofs.lemmas.Grind.{common_steps}
 
 -- the steps that are shown are a run from the state after the steps before them
 shown_run : (m k : Setting) (x y : State) (steps early rest shown : List Step) (before many : ℕ)

@@ -1,7 +1,6 @@
 use Rattle.std.proofs.Common.{◌≡◌, ap₂, rules, arith}
-use Rattle.std.proofs.lemmas.Result.{on_ok_weaker}
+use Rattle.std.proofs.lemmas.{Result.on_ok_weaker, Grind.common_steps}
 use Rattle.monk_page.proofs.page_data.write_steps.Goals as goal
-use Rattle.std.proofs.lemmas.Grind.{common_steps}
 
 pub returns : goal.returns
 returns c =

@@ -1,9 +1,8 @@
 use Rattle.std.proofs.Common.{◌≡◌, Some, rules, arith}
-use Rattle.std.{proofs.lemmas.List.take_all, specs.Prelude.option_and_then}
+use Rattle.std.{proofs.lemmas.List.take_all, proofs.lemmas.Grind.common_steps, specs.Prelude.option_and_then}
 use Rattle.serde_json.specs.{Find.as_array, Find.get, View.items_view, View.view}
 use Rattle.monk_page.proofs.told.names_at.Goals as goal
 use Rattle.monk_page.proofs.NameLaws.{names_there, text_in}
-use Rattle.std.proofs.lemmas.Grind.{common_steps}
 
 pub returns : goal.returns
 returns c =

@@ -1,9 +1,8 @@
-use Rattle.std.proofs.Common.{arith}
+use Rattle.std.proofs.{Common.arith, lemmas.Grind.common_steps}
 use Rattle.monk_kinds.specs.declared.mode.Pick.TheVariants.{Waiter}
 use Rattle.monk_samples.proofs.book.begin_write.Goals as goal
 use Rattle.monk_samples.proofs.{StyleLaws.left, VisitLaws.visited}
 use Rattle.monk_samples.specs.{Members.begins_to_write, declared.end.End.TheVariants.Done}
-use Rattle.std.proofs.lemmas.Grind.{common_steps}
 
 pub returns-in-Ok : goal.returns-in-Ok
 returns-in-Ok g c =

@@ -1,7 +1,6 @@
-use Rattle.std.proofs.Common.{arith}
+use Rattle.std.proofs.{Common.arith, lemmas.Grind.common_steps}
 use Rattle.monk_samples.proofs.book.write_end_all.Goals as goal
 use Rattle.monk_samples.proofs.VisitLaws.{finished, visited_out}
-use Rattle.std.proofs.lemmas.Grind.{common_steps}
 
 pub returns-then-waits : goal.returns-then-waits
 returns-then-waits g c = grind (arith, common_steps, visited_out)

@@ -1,7 +1,6 @@
 use Rattle.monk_samples.proofs.buffer.put_wait.Goals as goal
-use Rattle.monk_samples.{proofs.VisitLaws.visited_out}
-use Rattle.std.proofs.lemmas.Grind.{common_steps}
-use Rattle.std.proofs.Common.{arith, rules}
+use Rattle.monk_samples.proofs.VisitLaws.{visited_out}
+use Rattle.std.proofs.{lemmas.Grind.common_steps, Common.arith, Common.rules}
 
 pub returns-in-Ok : goal.returns-in-Ok
 returns-in-Ok g c = search (rules, visited_out)

@@ -1,5 +1,5 @@
 use Rattle.std.proofs.Common.{◌≡◌, inl, inr, refl, ap, sym, subst, ◌∙◌, List, [], ◌∷◌, ◌++◌, arith}
-use Rattle.std.{proofs.lemmas.Bool.false≢true, specs.Prelude.All}
+use Rattle.std.{proofs.lemmas.Bool.false≢true, proofs.lemmas.Grind.common_steps, specs.Prelude.All}
 use Rattle.monk_history.specs.Meaning.{Counts.events_of, Turn.turn}
 use Rattle.monk_history.specs.declared.event.{Event.Event, Event.TheVariants.Leave, Next.TheVariants.Entry}
 use Rattle.monk_world.specs.StepTable.{out_event}
@@ -7,12 +7,11 @@ use Rattle.monk_hall.specs.{Changes.source_from, Complete.AreApart, Floors.Start
 use Rattle.monk_hall.specs.{Tokens.Token, declared.record.SeatRecord.SeatRecord}
 use Rattle.monk_floor.specs.View.{FloorView}
 use Rattle.monk_samples.proofs.closing.close_by.Goals as goal
-use Rattle.monk_samples.proofs.MeetLaws.{apart_from, still_differ, closed_begins, closed_own, first_able, first_is_of}
-use Rattle.monk_samples.proofs.MeetLaws.{holds_operations, came_comes, closed_ends, left_by, nothing_done, only_here}
 use Rattle.monk_samples.proofs.UnclosedLaws.{active_begins, crowded, torn, whole_here}
 use Rattle.monk_samples.proofs.RunLaws.{closed_by}
-use Rattle.monk_samples.specs.{Samples.IsOfFirstVersion}
-use Rattle.std.proofs.lemmas.Grind.{common_steps}
+use Rattle.monk_samples.proofs.MeetLaws.{apart_from, still_differ, closed_begins, closed_own, first_able, first_is_of}
+use Rattle.monk_samples.proofs.MeetLaws.{holds_operations, came_comes, closed_ends, left_by, nothing_done, only_here}
+use Rattle.monk_samples.specs.Samples.{IsOfFirstVersion}
 
 pub resume-active-requires-after_bounds : goal.resume-active-requires-after_bounds
 resume-active-requires-after_bounds g c κs within =

@@ -1,14 +1,13 @@
 use Rattle.std.proofs.Common.{◌≡◌, [], ◌∷◌, ◌++◌, append_assoc, append-nil, refl, sym, ap, subst, ◌∙◌, arith}
-use Rattle.std.proofs.lemmas.List.{nil_from_length}
-use Rattle.std.proofs.lemmas.List.Elements.{All-cons, All-head, All-nil, All-tail}
+use Rattle.std.proofs.lemmas.{List.nil_from_length, List.Elements.All-cons, List.Elements.All-head}
+use Rattle.std.proofs.lemmas.{List.Elements.All-nil, List.Elements.All-tail, Grind.common_steps}
 use Rattle.std.specs.{Prelude.vec_items, Vec.Iter.into_iter_items}
 use Rattle.monk_hall.specs.{Floors.StartsWith, Tokens.Token}
 use Rattle.monk_samples.proofs.closing.meet_all.Goals as goal
-use Rattle.monk_samples.proofs.{TrailLaws.starts_here}
-use Rattle.monk_samples.proofs.MeetLaws.{same_pass, same_again, same_pushed, still_begins, met_same, met_begins}
+use Rattle.monk_samples.proofs.TrailLaws.{starts_here}
 use Rattle.monk_samples.proofs.RunLaws.{one_more, first_of, rest_of, same_all, none_yet}
+use Rattle.monk_samples.proofs.MeetLaws.{same_pass, same_again, same_pushed, still_begins, met_same, met_begins}
 use Rattle.monk_samples.specs.{Crews.IsOf, Wholes.AreSame}
-use Rattle.std.proofs.lemmas.Grind.{common_steps}
 
 pub loop-pass-init : goal.loop-pass-init
 loop-pass-init g c =

@@ -1,9 +1,8 @@
 use Rattle.std.proofs.Common.{◌≡◌, ◌++◌, map, refl, ap, ◌∙◌, arith}
-use Rattle.std.{specs.Prelude.vec_items, specs.Vec.Iter.into_iter_items}
+use Rattle.std.{specs.Prelude.vec_items, specs.Vec.Iter.into_iter_items, proofs.lemmas.Grind.common_steps}
 use Rattle.monk_samples.proofs.crew.workers.Goals as goal
 use Rattle.monk_samples.proofs.RunLaws.{one_more, first_of, rest_of, same_all, none_yet, mapped_more}
 use Rattle.monk_samples.specs.Crews.{IsReady}
-use Rattle.std.proofs.lemmas.Grind.{common_steps}
 
 pub loop-pass-init : goal.loop-pass-init
 loop-pass-init g c =

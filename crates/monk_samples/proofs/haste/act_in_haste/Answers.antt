@@ -1,10 +1,8 @@
-use Rattle.std.proofs.Common.{Some, arith}
-use Rattle.std.proofs.lemmas.Result.{MatchResult-weaker}
+use Rattle.std.proofs.{Common.Some, Common.arith, lemmas.Result.MatchResult-weaker, lemmas.Grind.common_steps}
 use Rattle.monk_samples.proofs.haste.act_in_haste.Goals as goal
 use Rattle.monk_samples.proofs.PauseLaws.{acted_looked, stayed_out, tired_inside, unready}
 use Rattle.monk_samples.proofs.HasteLaws.{looked_since, tired_since}
 use Rattle.monk_samples.specs.{Trails.outside, Visits.hasty_guard}
-use Rattle.std.proofs.lemmas.Grind.{common_steps}
 
 pub returns-in-Err-clause-acted : goal.returns-in-Err-clause-acted
 returns-in-Err-clause-acted g c = grind (arith, common_steps, stayed_out)

@@ -1,12 +1,11 @@
 use Rattle.std.proofs.Common.{◌≡◌, false, Some, arith}
-use Rattle.std.proofs.lemmas.Result.{MatchResult-weaker}
+use Rattle.std.proofs.lemmas.{Result.MatchResult-weaker, Grind.common_steps}
 use Rattle.monk_history.specs.Meaning.Monitor.{data_of}
 use Rattle.monk_floor.specs.View.{monitor_of}
 use Rattle.monk_samples.proofs.haste.pause_once.Goals as goal
 use Rattle.monk_samples.proofs.{ShortLaws.still_pauses, TrailLaws.called_none}
 use Rattle.monk_samples.proofs.PauseLaws.{left_after, looked_first, looked_none, paused_none}
 use Rattle.monk_samples.specs.{Trails.inside, Visits.hasty_guard}
-use Rattle.std.proofs.lemmas.Grind.{common_steps}
 
 pub returns-then-holds-clause-paused : goal.returns-then-holds-clause-paused
 returns-then-holds-clause-paused g c = grind (arith, common_steps, looked_none, called_none)

@@ -1,8 +1,7 @@
 use Rattle.std.proofs.Common.{ap, ◌∙◌, arith}
-use Rattle.monk_samples.specs.Totals.{totals_of}
-use Rattle.monk_samples.proofs.RunLaws.{law_here, outcome_of}
-use Rattle.monk_samples.proofs.running.outcome.Goals as goal
 use Rattle.std.proofs.lemmas.Grind.{common_steps}
+use Rattle.monk_samples.proofs.running.outcome.Goals as goal
+use Rattle.monk_samples.{specs.Totals.totals_of, proofs.RunLaws.law_here, proofs.RunLaws.outcome_of}
 
 pub totals_of-totals-requires-clause-law : goal.totals_of-totals-requires-clause-law
 totals_of-totals-requires-clause-law g c =

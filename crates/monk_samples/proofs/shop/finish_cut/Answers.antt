@@ -1,8 +1,6 @@
-use Rattle.std.proofs.Common.{arith}
+use Rattle.std.proofs.{Common.arith, lemmas.Grind.common_steps}
 use Rattle.monk_samples.proofs.shop.finish_cut.Goals as goal
-use Rattle.monk_samples.proofs.{VisitLaws.tired, VisitLaws.visited}
-use Rattle.monk_samples.specs.Members.{finishes}
-use Rattle.std.proofs.lemmas.Grind.{common_steps}
+use Rattle.monk_samples.{proofs.VisitLaws.tired, proofs.VisitLaws.visited, specs.Members.finishes}
 
 pub returns-in-Ok : goal.returns-in-Ok
 returns-in-Ok g c = grind (arith, common_steps, visited)

@@ -1,7 +1,6 @@
-use Rattle.std.proofs.Common.{arith}
+use Rattle.std.proofs.{Common.arith, lemmas.Grind.common_steps}
 use Rattle.monk_samples.proofs.shop.have_cut.Goals as goal
 use Rattle.monk_samples.proofs.VisitLaws.{visited_twice}
-use Rattle.std.proofs.lemmas.Grind.{common_steps}
 
 pub returns-in-Done : goal.returns-in-Done
 returns-in-Done g c = grind (arith, common_steps, visited_twice)

@@ -1,9 +1,8 @@
-use Rattle.std.proofs.{Common.refl, Common.Some, lemmas.Result.MatchResult-weaker}
+use Rattle.std.proofs.lemmas.{Result.MatchResult-weaker, Grind.common_steps}
+use Rattle.std.proofs.Common.{refl, Some, arith}
 use Rattle.monk_samples.proofs.visit.come_in_when.Goals as goal
 use Rattle.monk_samples.proofs.PauseLaws.{paused_none, paused_then, stayed_out, tired_after, unready}
 use Rattle.monk_samples.specs.{Trails.outside, Visits.guard}
-use Rattle.std.proofs.lemmas.Grind.{common_steps}
-use Rattle.std.proofs.Common.{arith}
 
 pub returns-in-Ok : goal.returns-in-Ok
 returns-in-Ok g c =

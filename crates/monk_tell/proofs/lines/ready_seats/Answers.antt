@@ -1,9 +1,7 @@
-use Rattle.std.proofs.Common.{arith}
-use Rattle.std.proofs.lemmas.List.{append-nil}
-use Rattle.monk_tell.proofs.LineLaws.{ready_more}
+use Rattle.std.proofs.{Common.arith, lemmas.List.append-nil, lemmas.Grind.common_steps}
 use Rattle.monk_tell.proofs.lines.ready_seats.Goals as goal
 use Rattle.monk_tell.proofs.lines.ready_seats.Goals.{then-holds+in_ok-push, else-holds}
-use Rattle.std.proofs.lemmas.Grind.{common_steps}
+use Rattle.monk_tell.proofs.LineLaws.{ready_more}
 
 pub loop-wait-preserved : goal.loop-wait-preserved
 loop-wait-preserved g c =

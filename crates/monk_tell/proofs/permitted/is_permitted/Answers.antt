@@ -1,8 +1,7 @@
 use Rattle.std.proofs.Common.{◌≡◌, arith}
-use Rattle.std.specs.Prelude.{slice_get}
-use Rattle.monk_tell.proofs.LineLaws.{permits_front}
+use Rattle.std.{specs.Prelude.slice_get, proofs.lemmas.Grind.common_steps}
 use Rattle.monk_tell.proofs.permitted.is_permitted.Goals as goal
-use Rattle.std.proofs.lemmas.Grind.{common_steps}
+use Rattle.monk_tell.proofs.LineLaws.{permits_front}
 
 pub returns : goal.returns
 returns c =

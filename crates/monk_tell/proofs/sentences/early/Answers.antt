@@ -1,10 +1,9 @@
 use Rattle.std.proofs.Common.{◌≡◌, ◌∙◌, ap, ℕ, List, [], arith}
-use Rattle.monk_history.specs.Meaning.Events.{seat_of}
-use Rattle.monk_audit.specs.{Replay.replay_situation}
-use Rattle.monk_tell.proofs.sentences.early.Goals as goal
-use Rattle.monk_tell.proofs.TellLaws.{place_caused}
-use Rattle.monk_tell.specs.Cause.{conditions_below, waits_at}
 use Rattle.std.proofs.lemmas.Grind.{common_steps}
+use Rattle.monk_history.specs.Meaning.Events.{seat_of}
+use Rattle.monk_audit.specs.Replay.{replay_situation}
+use Rattle.monk_tell.proofs.sentences.early.Goals as goal
+use Rattle.monk_tell.{proofs.TellLaws.place_caused, specs.Cause.conditions_below, specs.Cause.waits_at}
 
 pub returns-in_ok-conditions-in-Turn : goal.returns-in_ok-conditions-in-Turn
 returns-in_ok-conditions-in-Turn c =

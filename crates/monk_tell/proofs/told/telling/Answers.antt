@@ -1,11 +1,9 @@
 use Rattle.std.proofs.Common.{◌∙◌, ℕ, ap, arith, sym, take}
-use Rattle.std.proofs.lemmas.List.{length-take-le}
+use Rattle.std.proofs.lemmas.{List.length-take-le, Grind.common_steps}
 use Rattle.monk_kinds.specs.Names.{rules_named}
-use Rattle.monk_history.specs.Meaning.{Acts.refused_steps}
+use Rattle.monk_history.specs.Meaning.Acts.{refused_steps}
 use Rattle.monk_tell.proofs.told.telling.Goals as goal
-use Rattle.monk_tell.proofs.StepLaws.{judged_there}
-use Rattle.monk_tell.specs.Told.{shown_standing, told_steps}
-use Rattle.std.proofs.lemmas.Grind.{common_steps}
+use Rattle.monk_tell.{proofs.StepLaws.judged_there, specs.Told.shown_standing, specs.Told.told_steps}
 
 pub slice_bounds-past-end : goal.slice_bounds-past-end
 slice_bounds-past-end g c =

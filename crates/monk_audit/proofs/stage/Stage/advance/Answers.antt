@@ -1,15 +1,13 @@
-use Rattle.std.proofs.{Common.refl, lemmas.Result.err_from_is_err_and}
+use Rattle.std.proofs.{Common.refl, Common.arith, lemmas.Result.err_from_is_err_and, lemmas.Grind.common_steps}
 use Rattle.monk_audit.proofs.stage.Stage.advance.Goals as goal
-use Rattle.monk_audit.proofs.PieceLaws.{found_faulty, found_step, judges_book, judges_buffer, judges_flags, judges_shop}
-use Rattle.monk_audit.proofs.PieceLaws.{judging_faulty, judging_step}
 use Rattle.monk_audit.proofs.stage.Stage.advance.Goals.{in-Opening+in_ok-open-in-Opening}
 use Rattle.monk_audit.proofs.stage.Stage.advance.Goals.{in-Buffer+in_ok-judge_stage-in-Buffer}
 use Rattle.monk_audit.proofs.stage.Stage.advance.Goals.{in-Book+in_ok-judge_stage-in-Book}
 use Rattle.monk_audit.proofs.stage.Stage.advance.Goals.{in-Shop+in_ok-judge_stage-in-Shop}
 use Rattle.monk_audit.proofs.stage.Stage.advance.Goals.{in-Flags+in_ok-judge_stage-in-Flags}
 use Rattle.monk_audit.proofs.stage.Stage.advance.Goals.{in-Found+in_ok-read_lines-in-Found}
-use Rattle.std.proofs.lemmas.Grind.{common_steps}
-use Rattle.std.proofs.Common.{arith}
+use Rattle.monk_audit.proofs.PieceLaws.{found_faulty, found_step, judges_book, judges_buffer, judges_flags, judges_shop}
+use Rattle.monk_audit.proofs.PieceLaws.{judging_faulty, judging_step}
 
 pub returns-in_err-judge_stage-in-Buffer-clause-fault : goal.returns-in_err-judge_stage-in-Buffer-clause-fault
 returns-in_err-judge_stage-in-Buffer-clause-fault c =

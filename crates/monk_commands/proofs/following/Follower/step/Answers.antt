@@ -1,17 +1,14 @@
 use Rattle.std.proofs.Common.{◌≡◌, ◌∙◌, ◌++◌, List, ap, length, subst, sym, take, arith}
-use Rattle.std.proofs.Math.Seq.{take-append_seam}
+use Rattle.std.proofs.{Math.Seq.take-append_seam, lemmas.Grind.common_steps}
 use Rattle.monk_history.specs.Meaning.{Legal.IsLegal, Monitor.Monitor, Monitor.monitor, Situation.situation}
 use Rattle.monk_history.specs.declared.event.Event.{Event}
 use Rattle.monk_audit.specs.Replay.{seats_in}
 use Rattle.monk_floor.specs.View.{FloorView, monitor_of}
 use Rattle.monk_world.specs.WorldViews.{state_of_view}
 use Rattle.monk_commands.proofs.following.Follower.step.Goals as goal
-use Rattle.std.proofs.lemmas.Grind.{common_steps}
 
 pub follow-requires-clause-sound : goal.follow-requires-clause-sound
-follow-requires-clause-sound g c κs within =
-    let b = c.requires in
-    grind (arith, common_steps)
+follow-requires-clause-sound g c κs within = grind (arith, common_steps)
 
 pub returns-clause-behind : goal.returns-clause-behind
 returns-clause-behind g c =

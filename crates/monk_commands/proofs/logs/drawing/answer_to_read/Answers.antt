@@ -1,7 +1,5 @@
-use Rattle.std.proofs.{Common.rules, lemmas.Result.IfOk-weaker}
+use Rattle.std.proofs.{Common.rules, Common.arith, lemmas.Result.IfOk-weaker, lemmas.Grind.common_steps}
 use Rattle.monk_commands.proofs.logs.drawing.answer_to_read.Goals as goal
-use Rattle.std.proofs.lemmas.Grind.{common_steps}
-use Rattle.std.proofs.Common.{arith}
 
 pub returns : goal.returns
 returns c =

@@ -1,6 +1,5 @@
 use Rattle.monk_hall.proofs.active.Active.record_leave.Goals as goal
-use Rattle.std.proofs.lemmas.Grind.{common_steps}
-use Rattle.std.proofs.Common.{arith}
+use Rattle.std.proofs.{lemmas.Grind.common_steps, Common.arith}
 
 pub leave-release-requires-clause-call : goal.leave-release-requires-clause-call
 leave-release-requires-clause-call g c κs within = grind (arith, common_steps)

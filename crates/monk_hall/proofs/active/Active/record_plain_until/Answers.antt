@@ -1,6 +1,5 @@
-use Rattle.std.proofs.Common.{arith}
+use Rattle.std.proofs.{Common.arith, lemmas.Grind.common_steps}
 use Rattle.monk_hall.proofs.active.Active.record_plain_until.Goals as goal
-use Rattle.std.proofs.lemmas.Grind.{common_steps}
 
 pub plain_until-release-requires-clause-call : goal.plain_until-release-requires-clause-call
 plain_until-release-requires-clause-call g c κs within = grind (arith, common_steps)

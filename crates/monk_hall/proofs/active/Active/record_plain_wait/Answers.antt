@@ -1,6 +1,5 @@
 use Rattle.monk_hall.proofs.active.Active.record_plain_wait.Goals as goal
-use Rattle.std.proofs.lemmas.Grind.{common_steps}
-use Rattle.std.proofs.Common.{arith}
+use Rattle.std.proofs.{lemmas.Grind.common_steps, Common.arith}
 
 pub plain_wait-release-requires-clause-call : goal.plain_wait-release-requires-clause-call
 plain_wait-release-requires-clause-call g c κs within = grind (arith, common_steps)

@@ -1,10 +1,9 @@
-use Rattle.std.proofs.Common.{ap, arith}
+use Rattle.std.proofs.{Common.ap, Common.arith, lemmas.Grind.common_steps}
 use Rattle.monk_hall.proofs.active.Active.record_signal_wait.Goals as goal
 use Rattle.monk_hall.proofs.{KindLaws.immediate, Boxed.shown_apart}
 use Rattle.monk_hall.proofs.ReleaseLaws.{has_cond, is_near, owns}
 use Rattle.monk_history.proofs.PublicLaws.Meaning.{may_signal_wait}
 use Rattle.monk_floor.specs.View.{monitor_of}
-use Rattle.std.proofs.lemmas.Grind.{common_steps}
 
 pub signal_wait-release-requires-clause-call : goal.signal_wait-release-requires-clause-call
 signal_wait-release-requires-clause-call g c κs within =

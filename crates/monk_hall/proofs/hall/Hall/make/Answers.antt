@@ -1,6 +1,5 @@
 use Rattle.monk_hall.proofs.hall.Hall.make.Goals as goal
-use Rattle.std.proofs.lemmas.Grind.{common_steps}
-use Rattle.std.proofs.Common.{arith}
+use Rattle.std.proofs.{lemmas.Grind.common_steps, Common.arith}
 
 pub open-requires-clause-floor : goal.open-requires-clause-floor
 open-requires-clause-floor g c κs within = rw c.of-opening.ensures c.in_ok-floor.ensures.made.1

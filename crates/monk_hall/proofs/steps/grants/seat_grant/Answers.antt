@@ -1,10 +1,9 @@
 use Rattle.std.proofs.Common.{arith, ℕ, sym, subst}
+use Rattle.std.proofs.lemmas.Grind.{common_steps}
 use Rattle.atomic_table.specs.Table.{Allows}
 use Rattle.monk_hall.proofs.steps.grants.seat_grant.Goals as goal
 use Rattle.monk_hall.proofs.Reached.{calls_seat}
-use Rattle.monk_hall.specs.{Rule.setting_of, Schedules.IsReached}
-use Rattle.monk_hall.specs.{Tells.TellsCall}
-use Rattle.std.proofs.lemmas.Grind.{common_steps}
+use Rattle.monk_hall.specs.{Rule.setting_of, Schedules.IsReached, Tells.TellsCall}
 
 pub store-requires : goal.store-requires
 store-requires g c =

@@ -1,11 +1,10 @@
 use Rattle.std.proofs.Common.{arith, ℕ, ◌+◌, ◌%◌, ◌<◌, ◌≡◌, sym, subst, ◌∙◌, mod-lt}
+use Rattle.std.proofs.lemmas.Grind.{common_steps}
 use Rattle.atomic_table.specs.Table.{Allows}
 use Rattle.monk_world.specs.Places.{ticket}
 use Rattle.monk_hall.proofs.steps.grants.ticket_grant.Goals as goal
-use Rattle.monk_hall.proofs.Reached.{grants_ticket}
-use Rattle.monk_hall.specs.{Layout.place_word, Records.the, Rule.setting_of}
-use Rattle.monk_hall.specs.{Schedules.IsReached, Tells.TellsTicketGrant}
-use Rattle.std.proofs.lemmas.Grind.{common_steps}
+use Rattle.monk_hall.{proofs.Reached.grants_ticket, specs.Layout.place_word, specs.Records.the, specs.Rule.setting_of}
+use Rattle.monk_hall.{specs.Schedules.IsReached, specs.Tells.TellsTicketGrant}
 
 pub store-requires : goal.store-requires
 store-requires g c =

@@ -1,11 +1,10 @@
 use Rattle.std.proofs.Common.{◌≡◌, take, false, arith}
-use Rattle.monk_history.specs.Text.Device.{inner_of, has_failed}
-use Rattle.std.proofs.ByRecursion.{All-more}
-use Rattle.monk_history.specs.Text.{text}
-use Rattle.monk_history.proofs.TextLaws.PagedText.{IsOnItsWay, grows, text-more, sends}
-use Rattle.monk_history.proofs.text.writing.write.Goals.{then-room-lt-LONGEST_LINE+in_ok-send, else-room-lt-LONGEST_LINE}
+use Rattle.std.proofs.{ByRecursion.All-more, lemmas.Grind.common_steps}
 use Rattle.monk_history.proofs.text.writing.write.Goals as goal
-use Rattle.std.proofs.lemmas.Grind.{common_steps}
+use Rattle.monk_history.proofs.text.writing.write.Goals.{then-room-lt-LONGEST_LINE+in_ok-send}
+use Rattle.monk_history.proofs.text.writing.write.Goals.{else-room-lt-LONGEST_LINE}
+use Rattle.monk_history.proofs.TextLaws.PagedText.{IsOnItsWay, grows, text-more, sends}
+use Rattle.monk_history.specs.Text.{text, Device.inner_of, Device.has_failed}
 
 pub loop-event-preserved : goal.loop-event-preserved
 loop-event-preserved g c =

@@ -1,7 +1,6 @@
-use Rattle.monk_judge.proofs.Naming.{all_names, nobody_names}
 use Rattle.monk_judge.proofs.judge.Judge.broadcast.Goals as goal
-use Rattle.std.proofs.lemmas.Grind.{common_steps}
-use Rattle.std.proofs.Common.{arith}
+use Rattle.monk_judge.proofs.Naming.{all_names, nobody_names}
+use Rattle.std.proofs.{lemmas.Grind.common_steps, Common.arith}
 
 pub returns-then-many-eq0 : goal.returns-then-many-eq0
 returns-then-many-eq0 g c = λ e. record {

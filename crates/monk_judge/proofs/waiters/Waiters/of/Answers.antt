@@ -1,11 +1,10 @@
 use Rattle.std.proofs.Common.{◌∙◌, ◌+◌, ◌≤◌, [], false, get_or, length, take, ap, arith, subst, sym, take_all}
-use Rattle.std.proofs.Math.ListN.{length-replicate, length-set}
+use Rattle.std.proofs.{Math.ListN.length-replicate, Math.ListN.length-set, lemmas.Grind.common_steps}
 use Rattle.monk_logs.specs.declared.text.line.LogLine.TheVariants.{Enter}
-use Rattle.monk_judge.specs.Hints.{AreWaiters}
-use Rattle.monk_judge.proofs.Waiting.{no_wait, waiters_more, waiters_opening, waiters_same}
 use Rattle.monk_judge.proofs.waiters.Waiters.of.Goals as goal
+use Rattle.monk_judge.proofs.Waiting.{no_wait, waiters_more, waiters_opening, waiters_same}
 use Rattle.monk_judge.proofs.waiters.Waiters.of.Goals.{in-Wait, in_default}
-use Rattle.std.proofs.lemmas.Grind.{common_steps}
+use Rattle.monk_judge.specs.Hints.{AreWaiters}
 
 pub loop-line-init : goal.loop-line-init
 loop-line-init c =

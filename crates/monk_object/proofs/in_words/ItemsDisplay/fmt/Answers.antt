@@ -1,8 +1,7 @@
+use Rattle.std.proofs.{Output.has_written_append, Output.has_written_of_eq, lemmas.Grind.common_steps}
 use Rattle.std.proofs.Common.{codes, arith}
-use Rattle.std.{proofs.Output.has_written_append, proofs.Output.has_written_of_eq}
 use Rattle.monk_object.proofs.in_words.ItemsDisplay.fmt.Goals as goal
 use Rattle.monk_object.proofs.Printed.{printed_more}
-use Rattle.std.proofs.lemmas.Grind.{common_steps}
 
 pub loop-item-preserved : goal.loop-item-preserved
 loop-item-preserved g c = λ plain.

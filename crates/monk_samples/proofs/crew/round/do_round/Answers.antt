@@ -1,8 +1,6 @@
-use Rattle.std.proofs.Common.{sym, subst, arith}
+use Rattle.std.proofs.{Common.sym, Common.subst, Common.arith, lemmas.Grind.common_steps}
 use Rattle.monk_samples.proofs.crew.round.do_round.Goals as goal
-use Rattle.monk_samples.specs.{Rounds.visits_of, Visits.HasVisited}
-use Rattle.monk_samples.specs.{declared.sample.Sample.Sample}
-use Rattle.std.proofs.lemmas.Grind.{common_steps}
+use Rattle.monk_samples.specs.{Rounds.visits_of, Visits.HasVisited, declared.sample.Sample.Sample}
 
 pub trade-requires-clause-object : goal.trade-requires-clause-object
 trade-requires-clause-object g c κs within = grind (arith, common_steps)

@@ -1,7 +1,6 @@
-use Rattle.std.proofs.Common.{arith}
+use Rattle.std.proofs.{Common.arith, lemmas.Grind.common_steps}
 use Rattle.monk_samples.proofs.crew.round.read.Goals as goal
 use Rattle.monk_samples.proofs.{RoundLaws.still_of, VisitLaws.visited_twice}
-use Rattle.std.proofs.lemmas.Grind.{common_steps}
 
 pub returns-in-Done : goal.returns-in-Done
 returns-in-Done g c = grind (arith, common_steps, visited_twice, still_of)

@@ -1,6 +1,5 @@
-use Rattle.std.proofs.Common.{arith}
+use Rattle.std.proofs.{Common.arith, lemmas.Grind.common_steps}
 use Rattle.monk_samples.proofs.crew.round.trade.Goals as goal
-use Rattle.std.proofs.lemmas.Grind.{common_steps}
 
 pub returns-in-Patient-clause-visited : goal.returns-in-Patient-clause-visited
 returns-in-Patient-clause-visited g c = grind (arith, common_steps)

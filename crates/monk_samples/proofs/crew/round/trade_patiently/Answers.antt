@@ -1,6 +1,5 @@
-use Rattle.std.proofs.Common.{arith}
+use Rattle.std.proofs.{Common.arith, lemmas.Grind.common_steps}
 use Rattle.monk_samples.proofs.crew.round.trade_patiently.Goals as goal
-use Rattle.std.proofs.lemmas.Grind.{common_steps}
 
 pub returns-then-seat-rota-clause-visited : goal.returns-then-seat-rota-clause-visited
 returns-then-seat-rota-clause-visited g c = grind (arith, common_steps)

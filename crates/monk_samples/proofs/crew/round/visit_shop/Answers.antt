@@ -1,11 +1,10 @@
 use Rattle.std.proofs.Common.{◌≡◌, ℕ, [], ◌∷◌, sym, ap, arith}
+use Rattle.std.proofs.lemmas.{Bool.Decides.nat_tests, Grind.common_steps}
 use Rattle.monk_kinds.specs.declared.mode.Rules.{Rules}
 use Rattle.monk_hall.specs.declared.setting.Setting.{Setting}
 use Rattle.monk_samples.proofs.crew.round.visit_shop.Goals as goal
-use Rattle.monk_samples.specs.{Rounds.visits_of, declared.manner.Manner.Manner, declared.sample.Sample.TheVariants.Shop}
-use Rattle.monk_samples.specs.Members.{sits, departs, calls, finishes}
-use Rattle.std.proofs.lemmas.Bool.Decides.{nat_tests}
-use Rattle.std.proofs.lemmas.Grind.{common_steps}
+use Rattle.monk_samples.specs.{Rounds.visits_of, Members.sits, Members.departs, Members.calls, Members.finishes}
+use Rattle.monk_samples.specs.declared.{manner.Manner.Manner, sample.Sample.TheVariants.Shop}
 
 module _ (m : Manner) (k : Rules) (c : Setting) (seats seat round : ℕ) where
   -- the round of the barber

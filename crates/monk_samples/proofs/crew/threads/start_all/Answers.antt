@@ -1,10 +1,9 @@
 use Rattle.std.proofs.Common.{◌≡◌, ◌∷◌, map, sym, ap, ◌∙◌, arith, rules}
-use Rattle.std.{specs.Prelude.vec_items, specs.Vec.Iter.into_iter_items}
+use Rattle.std.{specs.Prelude.vec_items, specs.Vec.Iter.into_iter_items, proofs.lemmas.Grind.common_steps}
 use Rattle.monk_samples.proofs.crew.threads.start_all.Goals as goal
 use Rattle.monk_samples.proofs.EndLaws.{if_err, is_memory}
 use Rattle.monk_samples.proofs.RunLaws.{one_more, first_of, rest_of, same_all, none_yet, mapped_more}
 use Rattle.monk_samples.specs.Crews.{IsReady}
-use Rattle.std.proofs.lemmas.Grind.{common_steps}
 
 pub loop-worker-init : goal.loop-worker-init
 loop-worker-init g c = search (rules, none_yet, same_all)

@@ -1,9 +1,8 @@
 use Rattle.std.proofs.Common.{rules, ◌≡◌, ℕ, true, arith}
-use Rattle.monk_hall.specs.declared.setting.Setting.{Setting}
-use Rattle.monk_samples.specs.Rounds.{round_of}
-use Rattle.monk_samples.proofs.RoundLaws.{no_round, round_done}
-use Rattle.monk_samples.proofs.crew.threads.work.Goals as goal
 use Rattle.std.proofs.lemmas.Grind.{common_steps}
+use Rattle.monk_hall.specs.declared.setting.Setting.{Setting}
+use Rattle.monk_samples.proofs.crew.threads.work.Goals as goal
+use Rattle.monk_samples.{specs.Rounds.round_of, proofs.RoundLaws.no_round, proofs.RoundLaws.round_done}
 
 pub loop-done-init : goal.loop-done-init
 loop-done-init g c = let k = g.K.Kind.rules in let w = c.args.worker in (

@@ -1,10 +1,8 @@
-use Rattle.std.proofs.{Common.List, Common.subst, lemmas.List.Elements.All-pop}
+use Rattle.std.proofs.{Common.List, Common.subst, Common.arith, lemmas.List.Elements.All-pop, lemmas.Grind.common_steps}
 use Rattle.monk_hall.specs.Tokens.{Token}
 use Rattle.monk_samples.proofs.crew.threads.work_all.Goals as goal
 use Rattle.monk_samples.proofs.{EndLaws.all_served, EndLaws.fault_then, EndLaws.if_err, RunLaws.if_ok}
 use Rattle.monk_samples.specs.{Crews.IsReady, Ends.HaveServed}
-use Rattle.std.proofs.lemmas.Grind.{common_steps}
-use Rattle.std.proofs.Common.{arith}
 
 pub workers-requires-after_bounds : goal.workers-requires-after_bounds
 workers-requires-after_bounds g c κs within =

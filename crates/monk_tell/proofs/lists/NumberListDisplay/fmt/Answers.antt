@@ -1,8 +1,7 @@
+use Rattle.std.proofs.{Output.has_written_append, Output.has_written_of_eq, lemmas.Grind.common_steps}
 use Rattle.std.proofs.Common.{codes, arith}
-use Rattle.std.{proofs.Output.has_written_append, proofs.Output.has_written_of_eq}
 use Rattle.monk_tell.proofs.lists.NumberListDisplay.fmt.Goals as goal
 use Rattle.monk_tell.proofs.ListLaws.{printed_more}
-use Rattle.std.proofs.lemmas.Grind.{common_steps}
 
 pub loop-number-preserved : goal.loop-number-preserved
 loop-number-preserved g c = λ plain.

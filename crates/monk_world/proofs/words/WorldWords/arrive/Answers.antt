@@ -1,7 +1,6 @@
-use Rattle.std.proofs.Common.{arith}
+use Rattle.std.proofs.{Common.arith, lemmas.Grind.common_steps}
 use Rattle.monk_world.proofs.words.WorldWords.arrive.Goals as goal
-use Rattle.monk_world.{proofs.StoredLaws.place_stored}
-use Rattle.std.proofs.lemmas.Grind.{common_steps}
+use Rattle.monk_world.proofs.StoredLaws.{place_stored}
 
 pub returns-clause-shows : goal.returns-clause-shows
 returns-clause-shows c = grind (arith, common_steps, place_stored)

@@ -1,8 +1,6 @@
-use Rattle.std.proofs.Common.{arith}
-use Rattle.std.{proofs.lemmas.Nat.mod_below}
+use Rattle.std.proofs.{Common.arith, lemmas.Nat.mod_below, lemmas.Grind.common_steps}
 use Rattle.monk_world.proofs.words.WorldWords.ticket_grant.Goals as goal
 use Rattle.monk_world.proofs.StoredLaws.{place_stored, ticket_stored}
-use Rattle.std.proofs.lemmas.Grind.{common_steps}
 
 pub returns-clause-shows : goal.returns-clause-shows
 returns-clause-shows c = grind (arith, common_steps, mod_below, place_stored, ticket_stored)

@@ -1,8 +1,7 @@
-use Rattle.std.proofs.Common.{refl, arith}
+use Rattle.std.proofs.{Common.refl, Common.arith, lemmas.Grind.common_steps}
 use Rattle.monk_world.specs.declared.command.Command.TheVariants as command
 use Rattle.monk_world.proofs.StateSteps as world
 use Rattle.monk_world.proofs.world.World.act.Goals as goal
-use Rattle.std.proofs.lemmas.Grind.{common_steps}
 
 pub act-requires-clause-call : goal.act-requires-clause-call
 act-requires-clause-call g c κs within = grind (arith, common_steps)

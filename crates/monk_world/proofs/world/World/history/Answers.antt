@@ -1,10 +1,9 @@
-use Rattle.std.proofs.Common.{subst, arith}
+use Rattle.std.proofs.{Common.subst, Common.arith, lemmas.Grind.common_steps}
 use Rattle.monk_world.proofs.world.World.history.Goals as goal
-use Rattle.monk_world.proofs.{RunLaws.well_led}
+use Rattle.monk_world.proofs.RunLaws.{well_led}
 use Rattle.monk_world.specs.{Runs.IsWellLed, WorldViews.WorldView, WorldViews.state_of_view, WorldViews.view_in}
-use Rattle.monk_history.specs.{Meaning.Legal.IsLegal}
+use Rattle.monk_history.specs.Meaning.Legal.{IsLegal}
 use Rattle.monk_floor.specs.View.{monitor_of}
-use Rattle.std.proofs.lemmas.Grind.{common_steps}
 
 pub returns-clause-legal : goal.returns-clause-legal
 returns-clause-legal g c =

@@ -1,11 +1,10 @@
-use Rattle.std.proofs.Common.{refl, arith}
-use Rattle.monk_history.specs.declared.event.Event.TheVariants.{SignalWait}
+use Rattle.std.proofs.{Common.refl, Common.arith, lemmas.Grind.common_steps}
 use Rattle.monk_history.specs.declared.event.Next.TheVariants as next
+use Rattle.monk_history.specs.declared.event.Event.TheVariants.{SignalWait}
 use Rattle.monk_world.specs.declared.command.Command.TheVariants as command
 use Rattle.monk_world.specs.declared.home.Home.TheVariants as home
 use Rattle.monk_world.proofs.StateSteps as world
 use Rattle.monk_world.proofs.world.World.signal_wait.Goals as goal
-use Rattle.std.proofs.lemmas.Grind.{common_steps}
 
 pub plain_signal_wait-next-requires-clause-call : goal.plain_signal_wait-next-requires-clause-call
 plain_signal_wait-next-requires-clause-call g c κs within = grind (arith, common_steps)

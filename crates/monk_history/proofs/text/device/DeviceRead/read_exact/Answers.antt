@@ -1,10 +1,9 @@
 use Rattle.std.proofs.Common.{◌≡◌, ℕ, ◌+◌, ◌-◌, ◌≤◌, List, ◌++◌, rules, arith, length, take, slice_range, sym, ap, ◌∙◌, le_refl}
-use Rattle.std.{proofs.Common.drop_at, proofs.Common.length-take-le, proofs.lemmas.Slice.take-put_mid_below}
-use Rattle.std.{proofs.KnownBytes.Consumes-trans}
+use Rattle.std.proofs.{lemmas.Slice.take-put_mid_below, lemmas.Grind.common_steps, KnownBytes.Consumes-trans}
+use Rattle.std.proofs.Common.{drop_at, length-take-le}
 use borrow.Rule.Slice.PartMut.{put_mid, post_of}
 use lib.Seq.{take-add, take-append-le}
 use Rattle.monk_history.proofs.text.device.DeviceRead.read_exact.Goals as goal
-use Rattle.std.proofs.lemmas.Grind.{common_steps}
 
 -- the old front, and after it what is new up to b
 take_split : (a b : ℕ) (old new : List ℕ) → a ≤ b → take a new ≡ take a old

@@ -1,8 +1,6 @@
-use Rattle.std.proofs.Common.{arith}
-use Rattle.std.proofs.lemmas.List.{nil_from_length}
-use Rattle.monk_history.proofs.TextLaws.NextWords.{words-last, words-more, is_next-longer}
+use Rattle.std.proofs.{Common.arith, lemmas.List.nil_from_length, lemmas.Grind.common_steps}
 use Rattle.monk_history.proofs.text.lines.front.left_behind.Goals as goal
-use Rattle.std.proofs.lemmas.Grind.{common_steps}
+use Rattle.monk_history.proofs.TextLaws.NextWords.{words-last, words-more, is_next-longer}
 
 pub returns-in_default : goal.returns-in_default
 returns-in_default c = grind (arith, common_steps, nil_from_length, words-last)

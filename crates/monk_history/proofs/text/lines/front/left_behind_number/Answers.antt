@@ -1,8 +1,7 @@
 use Rattle.std.proofs.Common.{◌<◌, ◌^◌, arith}
-use Rattle.std.proofs.lemmas.List.{nil_from_length}
-use Rattle.monk_history.proofs.TextLaws.NextWords.{digit-first, digit-more, number-last, number-ends}
+use Rattle.std.proofs.lemmas.{List.nil_from_length, Grind.common_steps}
 use Rattle.monk_history.proofs.text.lines.front.left_behind_number.Goals as goal
-use Rattle.std.proofs.lemmas.Grind.{common_steps}
+use Rattle.monk_history.proofs.TextLaws.NextWords.{digit-first, digit-more, number-last, number-ends}
 
 pub loop-next-init : goal.loop-next-init
 loop-next-init c = grind (arith, common_steps, digit-first)

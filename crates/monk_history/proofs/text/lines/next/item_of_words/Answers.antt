@@ -1,7 +1,6 @@
-use Rattle.std.proofs.Common.{arith}
-use Rattle.monk_history.proofs.TextLaws.FrontLaws.{cut_begins, cut_unended, read_is}
+use Rattle.std.proofs.{Common.arith, lemmas.Grind.common_steps}
 use Rattle.monk_history.proofs.text.lines.next.item_of_words.Goals as goal
-use Rattle.std.proofs.lemmas.Grind.{common_steps}
+use Rattle.monk_history.proofs.TextLaws.FrontLaws.{cut_begins, cut_unended, read_is}
 
 pub returns-in_err-line : goal.returns-in_err-line
 returns-in_err-line g c = rw c.from_residual.ensures (cut_unended c.args.bytes.now c.in_err-line.ensures.parts)

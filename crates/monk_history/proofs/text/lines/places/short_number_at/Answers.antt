@@ -1,7 +1,6 @@
-use Rattle.std.proofs.Common.{arith}
-use Rattle.monk_history.proofs.TextLaws.PlaceLaws.{number_begins, number_goes_on, number_stands}
+use Rattle.std.proofs.{Common.arith, lemmas.Grind.common_steps}
 use Rattle.monk_history.proofs.text.lines.places.short_number_at.Goals as goal
-use Rattle.std.proofs.lemmas.Grind.{common_steps}
+use Rattle.monk_history.proofs.TextLaws.PlaceLaws.{number_begins, number_goes_on, number_stands}
 
 pub returns-then-second-end-clause-stands : goal.returns-then-second-end-clause-stands
 returns-then-second-end-clause-stands c = grind (arith, common_steps, number_stands, number_begins)

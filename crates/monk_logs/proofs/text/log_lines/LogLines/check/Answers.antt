@@ -1,9 +1,8 @@
 use Rattle.std.proofs.Common.{sym, ap, ◌∙◌, arith}
-use Rattle.std.proofs.lemmas.Result.{err_from_is_err_and}
+use Rattle.std.proofs.lemmas.{Result.err_from_is_err_and, Grind.common_steps}
 use Rattle.monk_logs.proofs.text.log_lines.LogLines.check.Goals as goal
 use Rattle.monk_logs.proofs.LogLaws.LogText.{log_again, log_read}
 use Rattle.monk_logs.specs.{declared.text.reading.TheConstants.MOST_LOG_LINES, Log.Reading.log_at}
-use Rattle.std.proofs.lemmas.Grind.{common_steps}
 
 pub returns-in_err-lines-clause-only : goal.returns-in_err-lines-clause-only
 returns-in_err-lines-clause-only c =

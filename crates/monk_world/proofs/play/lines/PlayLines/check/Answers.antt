@@ -1,9 +1,8 @@
+use Rattle.std.proofs.lemmas.{Result.err_from_is_err_and, Grind.common_steps}
 use Rattle.std.proofs.Common.{sym, arith, rules}
-use Rattle.std.proofs.lemmas.Result.{err_from_is_err_and}
 use Rattle.monk_world.proofs.play.lines.PlayLines.check.Goals as goal
 use Rattle.monk_world.proofs.PlayLaws.PlayText.{is_exact, is_fault, play_again, play_read}
-use Rattle.monk_world.specs.{declared.play.reading.TheConstants.MOST_COMMANDS}
-use Rattle.std.proofs.lemmas.Grind.{common_steps}
+use Rattle.monk_world.specs.declared.play.reading.TheConstants.{MOST_COMMANDS}
 
 pub returns-in_err-lines-clause-only : goal.returns-in_err-lines-clause-only
 returns-in_err-lines-clause-only c = grind (arith, common_steps, err_from_is_err_and, is_fault, play_again)

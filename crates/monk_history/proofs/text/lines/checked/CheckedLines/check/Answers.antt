@@ -1,8 +1,6 @@
-use Rattle.std.proofs.{lemmas.Result.err_from_is_err_and}
+use Rattle.std.proofs.{lemmas.Result.err_from_is_err_and, lemmas.Grind.common_steps, Common.arith}
 use Rattle.monk_history.proofs.text.lines.checked.CheckedLines.check.Goals as goal
 use Rattle.monk_history.proofs.TextLaws.LineSteps.{not_opened, no_items, both_parts}
-use Rattle.std.proofs.lemmas.Grind.{common_steps}
-use Rattle.std.proofs.Common.{arith}
 
 pub returns-in_err-header : goal.returns-in_err-header
 returns-in_err-header g c = grind (arith, common_steps, err_from_is_err_and, not_opened)

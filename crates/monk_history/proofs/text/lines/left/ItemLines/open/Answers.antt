@@ -1,8 +1,6 @@
-use Rattle.std.proofs.lemmas.Result.{err_from_is_err_and}
-use Rattle.monk_history.proofs.TextLaws.LineSteps.{no_header, some_header}
+use Rattle.std.proofs.{lemmas.Result.err_from_is_err_and, lemmas.Grind.common_steps, Common.arith}
 use Rattle.monk_history.proofs.text.lines.left.ItemLines.open.Goals as goal
-use Rattle.std.proofs.lemmas.Grind.{common_steps}
-use Rattle.std.proofs.Common.{arith}
+use Rattle.monk_history.proofs.TextLaws.LineSteps.{no_header, some_header}
 
 pub returns-in_err-header : goal.returns-in_err-header
 returns-in_err-header g c =
