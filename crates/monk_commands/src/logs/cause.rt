@@ -6,7 +6,7 @@ use crate::logs::trail::{Trail, WokenBy};
 use crate::logs::trails::Trails;
 use crate::logs::verdict_words::number;
 use monk_judge::{Blame, Misfit};
-use monk_logs::LogLine;
+use monk_logs::{LogLine, Subject, last_line};
 use std::alloc::AllocError;
 
 /// Writes the lines to look at, each with a sentence.
@@ -37,7 +37,8 @@ fn put_misfit(
             "it waits here, and no line tells that it is back",
         ),
         Blame::NoLock | Blame::Awake => {
-            told.put(trail.since, "this is the last that it did before")
+            let last = last_before(told.lines, finding.wrong_seat, misfit.line);
+            told.put(last, "this is the last that it did before")
         }
         Blame::Range | Blame::Call => Ok(()),
     }
@@ -80,6 +81,12 @@ fn put_woken(
         page,
         "nobody came in between lines {from} and {to}: the signal came though nothing was there for the seat"
     )
+}
+
+/// Returns the last line of the seat before that line. Lines are counted from 0 here, and from 1 by `last_line`.
+fn last_before(lines: &[LogLine], seat: u8, line: usize) -> Option<usize> {
+    let end = line.min(lines.len());
+    last_line(&lines[..end], Subject::Seat(seat))?.checked_sub(1)
 }
 
 /// Returns the first line between these two with which another seat takes the lock.
