@@ -43,16 +43,8 @@ class Answer(NamedTuple):
     holder: tuple[int, int] | None
 
 
-class Ending(NamedTuple):
-    """How many sleep and are woken at the end, how many were served, how often a woken one was passed, how many signals
-    found nobody, and in which line of the file the last of these."""
-
-    asleep: int
-    woken: int
-    served: int = 0
-    passed: int = 0
-    unheard: int = 0
-    last_unheard: int | None = None
+# The steps of a run, each with the thread that its signal wakes.
+Run = tuple[tuple[Step, int | None], ...]
 
 
 def opening(setting: Setting) -> State:
@@ -92,19 +84,25 @@ def behind(setting: Setting, runs: dict[State, int], line: Step) -> dict[State, 
     return found_behind(setting, frozenset(runs.items()), line)
 
 
-@lru_cache(maxsize=1 << 16)
-def found_behind(setting: Setting, runs: frozenset[tuple[State, int]], line: Step) -> dict[State, int]:
-    silent = dict(runs)
-    left = list(silent)
-    found: dict[State, int] = {}
+@lru_cache(maxsize=1 << 12)
+def silently(setting: Setting, runs: frozenset[tuple[State, int]]) -> dict[State, int]:
+    """The same after steps that have no line."""
+    found = dict(runs)
+    left = list(found)
     while left:
         x = left.pop()
         for step in (Step(verb, seat) for verb in SILENT for seat in range(setting.seats)):
-            y, cost = after(setting, x, step), silent[x] + (step.verb == "wake")
-            if y is not None and cost < silent.get(y, cost + 1):
-                silent[y] = cost
+            y, cost = after(setting, x, step), found[x] + (step.verb == "wake")
+            if y is not None and cost < found.get(y, cost + 1):
+                found[y] = cost
                 left.append(y)
-    for x, cost in silent.items():
+    return found
+
+
+@lru_cache(maxsize=1 << 16)
+def found_behind(setting: Setting, runs: frozenset[tuple[State, int]], line: Step) -> dict[State, int]:
+    found: dict[State, int] = {}
+    for x, cost in silently(setting, runs).items():
         for y in (after(setting, x, line, whom) for whom in (None, *range(setting.seats))):
             if y is not None:
                 found[y] = min(cost, found.get(y, cost))
@@ -131,57 +129,48 @@ def lapses_next(seat: int, lines: list[Step]) -> bool:
     return next((line.verb == "lapse" for line in lines if line.seat == seat), False)
 
 
-def tallied(so_far: Ending, x: State, y: State, line: Step, number: int) -> Ending:
-    """What is counted after the line with that number, which leads from x to y."""
-    woken = [sum(place[0] == "woken" for place in z.places) for z in (x, y)]
-    found = so_far._replace(asleep=sum(place[0] == "waiting" for place in y.places), woken=woken[1])
-    if line.verb in ("enter", "lapse"):
-        return found._replace(passed=so_far.passed + (woken[0] > 0))
-    if line.verb not in ("signal", "broadcast"):
-        return found
-    if ("waiting", line.numbers[0]) not in x.places:
-        return found._replace(unheard=so_far.unheard + 1, last_unheard=number)
-    return found._replace(served=so_far.served + woken[1] - woken[0])
+def tellings(setting: Setting, x: State, line: Step, runs_out: bool) -> list[tuple[Run, State]]:
+    """The steps that may tell the line, and the states behind them. Who wakes unasked comes back at once; after the line
+    its wait runs out, if it does."""
+    woken = after(setting, x, Step("wake", line.seat)) if line.verb == "resume" else None
+    front: Run = () if woken is None else ((Step("wake", line.seat), None),)
+    out = Step("out", line.seat)
+    found: list[tuple[Run, State]] = []
+    for whom in (None, *range(setting.seats)):
+        y = after(setting, x if woken is None else woken, line, whom)
+        z = after(setting, y, out) if y is not None and runs_out else y
+        if z is not None:
+            found.append(((*front, (line, whom), *([(out, None)] if runs_out else [])), z))
+    return found
 
 
-def told_by(setting: Setting, x: State, line: Step, runs_out: bool) -> list[State]:
-    """The states after the line, and after its wait has run out, if it does."""
-    found = [y for y in (after(setting, x, line, whom) for whom in (None, *range(setting.seats))) if y is not None]
-    return [z for z in (after(setting, y, Step("out", line.seat)) if runs_out else y for y in found) if z is not None]
-
-
-def endings(setting: Setting, log: list[Step], fitting: int) -> set[Ending]:
-    """How the runs of so many lines of the log end that have the fewest wake-ups that nobody sent. In each a wait runs
-    out just behind its own line, if its thread's next line says so, and who wakes unasked comes back at once."""
-    runs = {(opening(setting), Ending(0, 0)): 0}
-    for number, line in enumerate(log[:fitting], 2):
-        then: dict[tuple[State, Ending], int] = {}
-        runs_out = line.verb == "wait" and lapses_next(line.seat, log[number - 1:])
-        for (x, so_far), cost in runs.items():
-            woken = after(setting, x, Step("wake", line.seat)) if line.verb == "resume" else None
-            x, cost = (x, cost) if woken is None else (woken, cost + 1)
-            for y in told_by(setting, x, line, runs_out):
-                told = (y, tallied(so_far, x, y, line, number))
-                then[told] = min(cost, then.get(told, cost))
+def least_runs(setting: Setting, log: list[Step], fitting: int) -> list[Run]:
+    """The runs of so many lines of the log that have the fewest wake-ups that nobody sent. In each a wait runs out just
+    behind its own line, exactly if its thread's next line says so, and who wakes unasked comes back at once."""
+    runs: dict[State, tuple[int, list[Run]]] = {opening(setting): (0, [()])}
+    for number, line in enumerate(log[:fitting], 1):
+        then: dict[State, tuple[int, list[Run]]] = {}
+        runs_out = line.verb == "wait" and lapses_next(line.seat, log[number:])
+        for x, (cost, begun) in runs.items():
+            for steps, y in tellings(setting, x, line, runs_out):
+                many, found = cost + (steps[0][0].verb == "wake"), [(*run, *steps) for run in begun]
+                fewest, others = then.get(y, (many, []))
+                if many <= fewest:
+                    then[y] = (many, found + others * (many == fewest))
         runs = then
-    return {told for (_, told), cost in runs.items() if cost == min(runs.values())}
+    fewest = min((cost for cost, _ in runs.values()), default=0)
+    return [run for cost, found in runs.values() if cost == fewest for run in found]
 
 
-def wrong_with(text: str, setting: Setting, log: list[Step], unasked: int) -> str | None:
-    """What is wrong with the text of a run that must tell these lines, and in which `unasked` must wake unasked."""
-    head, *steps = text.splitlines()
-    x = opening(setting)
-    lines: list[Step] = []
-    if head != f"run NPNB {setting.seats} {setting.conds} {setting.object} {setting.size}":
-        return f"its first line is {head}"
-    for number, words in enumerate(steps, 2):
-        told, _, whom = words.partition(" wakes ")
-        step = step_of(told)
-        y = after(setting, x, step, int(whom) if whom else None)
-        if y is None:
-            return f"line {number} may not stand there: {words}"
-        x, lines, unasked = y, lines if step.verb in SILENT else [*lines, step], unasked - (step.verb == "wake")
-    return "its lines are not the log's" if lines != log else "another number wakes unasked" if unasked else None
+def run_text(setting: Setting, run: Run) -> str:
+    """The text of a run."""
+    head = ("run NPNB", setting.seats, setting.conds, setting.object, setting.size)
+    steps = (words_of(step) + (f" wakes {whom}" if whom is not None else "") for step, whom in run)
+    return "".join(f"{line}\n" for line in (" ".join(map(str, head)), *steps))
+
+
+def words_of(step: Step) -> str:
+    return " ".join(map(str, (step.verb, step.seat, *step.numbers)))
 
 
 def step_of(words: str) -> Step:
