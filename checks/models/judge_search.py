@@ -10,6 +10,7 @@ Place = tuple[str, int]
 OUTSIDE, ACTIVE = ("outside", 0), ("active", 0)
 # Where a thread is before a line with which it takes the lock, and after a step that has no line.
 TAKES, SILENT = {"enter": "outside", "resume": "woken", "lapse": "ran out"}, {"out": "ran out", "wake": "woken"}
+SIGNALS = ("signal", "broadcast")
 
 
 class Step(NamedTuple):
@@ -52,22 +53,25 @@ def opening(setting: Setting) -> State:
 
 
 def moved(x: State, lock: int | None, there: dict[int, Place]) -> State:
-    return State(lock, tuple(there.get(seat, place) for seat, place in enumerate(x.places)), x.data)
+    places = list(x.places)
+    for seat, place in there.items():
+        places[seat] = place
+    return State(lock, tuple(places), x.data)
 
 
 def after(setting: Setting, x: State, step: Step, whom: int | None = None) -> State | None:
     """The state after the step, whose signal wakes that thread; None if it may not happen."""
     verb, seat, rest = step
-    is_beyond = seat >= setting.seats or verb in ("wait", "signal", "broadcast") and rest[0] >= setting.conds
+    is_beyond = seat >= setting.seats or verb in ("wait", *SIGNALS) and rest[0] >= setting.conds
     if is_beyond or whom is not None and verb != "signal":
         return None
-    place, asleep = x.places[seat], [other for other, there in enumerate(x.places)
-                                     if there == ("waiting", rest[0] if rest else -1)]
+    place = x.places[seat]
     if verb in TAKES:
         return moved(x, seat, {seat: ACTIVE}) if x.lock is None and place[0] == TAKES[verb] else None
     if verb in SILENT:
         return moved(x, x.lock, {seat: (SILENT[verb], place[1])}) if place[0] == "waiting" else None
-    if verb in ("signal", "broadcast"):
+    if verb in SIGNALS:
+        asleep = [other for other, there in enumerate(x.places) if there == ("waiting", rest[0])]
         woken = asleep if verb == "broadcast" else [other for other in asleep if other == whom]
         may = (x.lock == seat or place == OUTSIDE) and (bool(woken) if asleep else whom is None)
         return moved(x, x.lock, {other: ("woken", rest[0]) for other in woken}) if may else None
@@ -77,6 +81,13 @@ def after(setting: Setting, x: State, step: Step, whom: int | None = None) -> St
         reply, thing = Thing(setting.object, list(x.data)).act(*rest[:2])
         return x._replace(data=tuple(thing.state)) if reply == rest[2] else None
     return moved(x, None, {seat: OUTSIDE if verb == "leave" else ("waiting", rest[0])})
+
+
+def told(setting: Setting, x: State, line: Step) -> list[tuple[int | None, State]]:
+    """Whom the line may wake, and the states after it."""
+    whoms = (None, *range(setting.seats)) if line.verb == "signal" else (None,)
+    states = ((whom, after(setting, x, line, whom)) for whom in whoms)
+    return [(whom, y) for whom, y in states if y is not None]
 
 
 def behind(setting: Setting, runs: dict[State, int], line: Step) -> dict[State, int]:
@@ -91,7 +102,8 @@ def silently(setting: Setting, runs: frozenset[tuple[State, int]]) -> dict[State
     left = list(found)
     while left:
         x = left.pop()
-        for step in (Step(verb, seat) for verb in SILENT for seat in range(setting.seats)):
+        asleep = [seat for seat, place in enumerate(x.places) if place[0] == "waiting"]
+        for step in (Step(verb, seat) for verb in SILENT for seat in asleep):
             y, cost = after(setting, x, step), found[x] + (step.verb == "wake")
             if y is not None and cost < found.get(y, cost + 1):
                 found[y] = cost
@@ -103,9 +115,8 @@ def silently(setting: Setting, runs: frozenset[tuple[State, int]]) -> dict[State
 def found_behind(setting: Setting, runs: frozenset[tuple[State, int]], line: Step) -> dict[State, int]:
     found: dict[State, int] = {}
     for x, cost in silently(setting, runs).items():
-        for y in (after(setting, x, line, whom) for whom in (None, *range(setting.seats))):
-            if y is not None:
-                found[y] = min(cost, found.get(y, cost))
+        for _, y in told(setting, x, line):
+            found[y] = min(cost, found.get(y, cost))
     return found
 
 
@@ -136,9 +147,8 @@ def tellings(setting: Setting, x: State, line: Step, runs_out: bool) -> list[tup
     front: Run = () if woken is None else ((Step("wake", line.seat), None),)
     out = Step("out", line.seat)
     found: list[tuple[Run, State]] = []
-    for whom in (None, *range(setting.seats)):
-        y = after(setting, x if woken is None else woken, line, whom)
-        z = after(setting, y, out) if y is not None and runs_out else y
+    for whom, y in told(setting, x if woken is None else woken, line):
+        z = after(setting, y, out) if runs_out else y
         if z is not None:
             found.append(((*front, (line, whom), *([(out, None)] if runs_out else [])), z))
     return found

@@ -4,9 +4,8 @@ from __future__ import annotations
 
 from typing import Iterator, Optional
 
-from judge_search import TAKES, words_of
+from judge_search import SIGNALS, TAKES, words_of
 from log_found import FIRST, Finding, Question, finding_line, never_waits_again, wrong_line
-from run_counts import SIGNALS
 
 MOVES = (*TAKES, "leave", "wait")
 REASONS = {

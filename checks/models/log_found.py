@@ -4,9 +4,9 @@ from __future__ import annotations
 
 from typing import Any, NamedTuple, Optional
 
-from judge_search import TAKES, Answer, Run, Setting, State, Step, opening
+from judge_search import SIGNALS, TAKES, Answer, Run, Setting, State, Step, opening
 from monitor import CODES, Thing
-from run_counts import SIGNALS, Counted, Moment, counted, moments, number_in
+from run_counts import Counted, Moment, counted, moments
 
 # The number in the file of the line behind the log's head, and how many must be overtaken before it is said that none
 # waits again.

@@ -4,11 +4,11 @@ from __future__ import annotations
 import itertools
 from collections.abc import Iterator
 from random import Random
+from typing import Optional
 
-from judge_search import TAKES, Setting, State, Step, behind, opening, step_of
+from judge_search import SIGNALS, TAKES, Setting, State, Step, after, behind, opening, step_of, told
 from log_found import Question, blame
 from monitor import CODES, PREDICATES, Thing
-from run_counts import SIGNALS
 
 # How many lines a random log has at most before one that is wrong, how many follow that, and of how many lines the
 # wrong one is chosen.
@@ -18,6 +18,8 @@ LINES, BEHIND, TRIED = 30, 4, 40
 LATE = (0.2, 0.5, 1, 2)
 # The same in a log in which many sleep, for whom a signal may choose.
 SLEEPY = {"wait": 0.2, "enter": 0.4, "signal": 0.5, "resume": 1.5, "lapse": 2, "leave": 2, "broadcast": 2}
+# How often a wait of the run that a random log tells runs out at once.
+RUN_OUT = 0.1
 # Of so many random logs one has a thread that is overtaken again and again.
 RARE = 2000
 
@@ -67,21 +69,31 @@ def wrong_lines(chance: Random, setting: Setting, x: State) -> list[Step]:
     return [wrong, *(any_line(chance, setting) for _ in range(chance.randrange(BEHIND)))]
 
 
+def walked(chance: Random, setting: Setting, x: State, line: Step, may_wake: bool) -> Optional[State]:
+    """A state behind the line, if it may follow. A wait may run out at once or late, and a thread may wake unasked."""
+    silent = {"lapse": "out", "resume": "wake" if may_wake else ""}.get(line.verb)
+    before = after(setting, x, Step(silent, line.seat)) if silent else None
+    states = told(setting, before or x, line)
+    if not states:
+        return None
+    y = chance.choice(states)[1]
+    return after(setting, y, Step("out", line.seat)) if line.verb == "wait" and chance.random() < RUN_OUT else y
+
+
 def random_log(chance: Random, setting: Setting) -> list[Step]:
     """A log that some run tells, or one with a misfit."""
-    log, runs = list[Step](), {opening(setting): 0}
+    log, x = list[Step](), opening(setting)
     late = {verb: chance.choice(LATE) for verb in (*TAKES, *SIGNALS, "leave", "wait", "act")}
     late |= SLEEPY if chance.random() < 0.3 else {}
     may_wake, stays_right = chance.random() < 0.4, chance.random() < 0.6
     for _ in range(chance.randrange(LINES)):
-        x, rank = next(iter(runs)), {verb: chance.random() * often for verb, often in late.items()}
-        all_ = lines_over(setting, x, chance.randrange(5))
+        rank, all_ = {verb: chance.random() * often for verb, often in late.items()}, lines_over(setting, x, chance.randrange(5))
         unheard = {line for line in all_ if line.verb in SIGNALS and ("waiting", line.numbers[0]) not in x.places}
         lines = sorted(all_, key=lambda line: (line in unheard, rank[line.verb], chance.random()))
-        found = ((line, behind(setting, runs, line)) for line in lines)
-        line, runs = next((line, then) for line, then in found if then and (may_wake or not min(then.values())))
+        found = ((line, walked(chance, setting, x, line, may_wake)) for line in lines)
+        line, x = next((line, then) for line, then in found if then)
         log.append(line)
-    return log if stays_right else log + wrong_lines(chance, setting, next(iter(runs)))
+    return log if stays_right else log + wrong_lines(chance, setting, x)
 
 
 def overtaken_log(chance: Random) -> list[Step]:

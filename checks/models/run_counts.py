@@ -4,9 +4,7 @@ from __future__ import annotations
 
 from typing import NamedTuple, Optional
 
-from judge_search import SILENT, TAKES, Place, Setting, State, Step, after, opening
-
-SIGNALS = ("signal", "broadcast")
+from judge_search import SIGNALS, SILENT, TAKES, Place, Setting, State, Step, after, opening
 
 
 class Moment(NamedTuple):
@@ -59,9 +57,8 @@ def is_rival(log: list[Step], all_: list[Moment], cond: int, by: int, end: int) 
     """Whether a thread comes in with line `by` and leaves with line `end`, alone, nobody signals to the condition
     between, and the thread waits there somewhere."""
     comes, leaves = all_[by].line, all_[end].line
-    between = [moment.line for moment in all_[by + 1:end]]
-    return (comes.verb == "enter" and leaves == Step("leave", comes.seat)
-            and not any(line.verb in TAKES or is_signal_to(cond, line) for line in between)
+    return (comes.verb == "enter" and leaves.verb == "leave" and leaves.seat == comes.seat
+            and not any(it.line.verb in TAKES or is_signal_to(cond, it.line) for it in all_[by + 1:end])
             and Step("wait", comes.seat, (cond,)) in log)
 
 
