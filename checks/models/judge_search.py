@@ -141,8 +141,8 @@ def lapses_next(seat: int, lines: list[Step]) -> bool:
 
 
 def tellings(setting: Setting, x: State, line: Step, runs_out: bool) -> list[tuple[Run, State]]:
-    """The steps that may tell the line, and the states behind them. Who wakes unasked comes back at once; after the line
-    its wait runs out, if it does."""
+    """The steps that may tell the line, and the states behind them. Who wakes unasked comes back at once. Behind the
+    line its wait runs out, if it does."""
     woken = after(setting, x, Step("wake", line.seat)) if line.verb == "resume" else None
     front: Run = () if woken is None else ((Step("wake", line.seat), None),)
     out = Step("out", line.seat)
@@ -157,19 +157,25 @@ def tellings(setting: Setting, x: State, line: Step, runs_out: bool) -> list[tup
 def least_runs(setting: Setting, log: list[Step], fitting: int) -> list[Run]:
     """The runs of so many lines of the log that have the fewest wake-ups that nobody sent. In each a wait runs out just
     behind its own line, exactly if its thread's next line says so, and who wakes unasked comes back at once."""
-    runs: dict[State, tuple[int, list[Run]]] = {opening(setting): (0, [()])}
+    runs: dict[State, list[Run]] = {opening(setting): [()]}
     for number, line in enumerate(log[:fitting], 1):
-        then: dict[State, tuple[int, list[Run]]] = {}
+        then: dict[State, list[Run]] = {}
         runs_out = line.verb == "wait" and lapses_next(line.seat, log[number:])
-        for x, (cost, begun) in runs.items():
+        for x, begun in runs.items():
             for steps, y in tellings(setting, x, line, runs_out):
-                many, found = cost + (steps[0][0].verb == "wake"), [(*run, *steps) for run in begun]
-                fewest, others = then.get(y, (many, []))
-                if many <= fewest:
-                    then[y] = (many, found + others * (many == fewest))
+                then[y] = fewest(then.get(y, []) + [(*run, *steps) for run in begun])
         runs = then
-    fewest = min((cost for cost, _ in runs.values()), default=0)
-    return [run for cost, found in runs.values() if cost == fewest for run in found]
+    return fewest([run for found in runs.values() for run in found])
+
+
+def fewest(runs: list[Run]) -> list[Run]:
+    """Those of the runs in which the fewest wake unasked."""
+    many = [unasked(run) for run in runs]
+    return [run for run, wakes in zip(runs, many) if wakes == min(many)]
+
+
+def unasked(run: Run) -> int:
+    return sum(step.verb == "wake" for step, _ in run)
 
 
 def run_text(setting: Setting, run: Run) -> str:

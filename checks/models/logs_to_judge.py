@@ -87,7 +87,8 @@ def random_log(chance: Random, setting: Setting) -> list[Step]:
     late |= SLEEPY if chance.random() < 0.3 else {}
     may_wake, stays_right = chance.random() < 0.4, chance.random() < 0.6
     for _ in range(chance.randrange(LINES)):
-        rank, all_ = {verb: chance.random() * often for verb, often in late.items()}, lines_over(setting, x, chance.randrange(5))
+        rank = {verb: chance.random() * often for verb, often in late.items()}
+        all_ = lines_over(setting, x, chance.randrange(5))
         unheard = {line for line in all_ if line.verb in SIGNALS and ("waiting", line.numbers[0]) not in x.places}
         lines = sorted(all_, key=lambda line: (line in unheard, rank[line.verb], chance.random()))
         found = ((line, walked(chance, setting, x, line, may_wake)) for line in lines)
@@ -112,7 +113,8 @@ def random_question(chance: Random, number: int) -> Question:
                       chance.choice(list(CODES)), chance.randrange(1, 4))
     log = random_log(chance, setting)
     preds = setting.size + 1 if setting.object == "flags" else PREDICATES[setting.object]
-    pairs = [(chance.randrange(setting.conds), chance.randrange(preds)) for _ in range(chance.choice((0, 0, 1, 1, 2, 3)))]
+    many = chance.choice((0, 0, 1, 1, 2, 3))
+    pairs = [(chance.randrange(setting.conds), chance.randrange(preds)) for _ in range(many)]
     is_asked = any(line.verb == "act" for line in log)
     places = [chance.randrange(4) for _ in range(chance.randrange(len(log) + 2))] if chance.random() < 0.2 else []
     return Question(setting, log, tuple(pairs) if is_asked else (), chance.random() < 0.15, tuple(places))
