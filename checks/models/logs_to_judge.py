@@ -20,8 +20,10 @@ LATE = (0.2, 0.5, 1, 2)
 SLEEPY = {"wait": 0.2, "enter": 0.4, "signal": 0.5, "resume": 1.5, "lapse": 2, "leave": 2, "broadcast": 2}
 # How often a wait of the run that a random log tells runs out at once.
 RUN_OUT = 0.1
+# How often the line that is wrong comes straight behind the last `resume`.
+RETURNED = 0.3
 # Of so many random logs one has a thread that is overtaken again and again.
-RARE = 2000
+RARE = 500
 
 
 def lines_over(setting: Setting, x: State, arg: int = 7) -> list[Step]:
@@ -83,6 +85,7 @@ def walked(chance: Random, setting: Setting, x: State, line: Step, may_wake: boo
 def random_log(chance: Random, setting: Setting) -> list[Step]:
     """A log that some run tells, or one with a misfit."""
     log, x = list[Step](), opening(setting)
+    back: Optional[tuple[int, State]] = None
     late = {verb: chance.choice(LATE) for verb in (*TAKES, *SIGNALS, "leave", "wait", "act")}
     late |= SLEEPY if chance.random() < 0.3 else {}
     may_wake, stays_right = chance.random() < 0.4, chance.random() < 0.6
@@ -94,13 +97,18 @@ def random_log(chance: Random, setting: Setting) -> list[Step]:
         found = ((line, walked(chance, setting, x, line, may_wake)) for line in lines)
         line, x = next((line, then) for line, then in found if then)
         log.append(line)
-    return log if stays_right else log + wrong_lines(chance, setting, x)
+        back = (len(log), x) if line.verb == "resume" else back
+    if stays_right:
+        return log
+    many, y = back if back and chance.random() < RETURNED else (len(log), x)
+    return log[:many] + wrong_lines(chance, setting, y)
 
 
 def overtaken_log(chance: Random) -> list[Step]:
     """A log in which a woken thread comes back some 24 times after another came and went. It may wait again once."""
     visit = ["enter 0", "wait 0 0", "enter 1", "signal 1 0", "leave 1", "enter 2", "leave 2", "resume 0"]
-    again = [*visit, "wait 0 0", "signal 1 0", "resume 0", "leave 0"] * (chance.random() < 0.5)
+    refused = ["act 0 1 0 0"] * (chance.random() < 0.5)
+    again = [*visit, *refused, "wait 0 0", "signal 1 0", "resume 0", "leave 0"] * (chance.random() < 0.5)
     words = [*again, *[*visit, "leave 0"] * chance.randrange(23, 27), "enter 2", "wait 2 0"]
     return [step_of(line) for line in words]
 
