@@ -1,0 +1,13 @@
+#!/usr/bin/env bash
+# Throwaway: see the commit message.
+cd /work/house
+for c in "$@"; do
+  python3 /tmp/lemmas2.py apply crates/$c
+  python3 /tmp/tidy_tac.py $(git diff --name-only -- crates/$c)
+  python3 /tmp/clean.py $c | tail -1
+  (cd crates/$c; rt fmt | tail -1)
+  python3 /tmp/tidy_tac.py $(git diff --name-only -- crates/$c)
+  python3 /tmp/clean.py $c | tail -1
+done
+python3 checks/text | tail -6 | cut -c1-150
+git diff --shortstat
