@@ -1,7 +1,7 @@
 // Levels. A level is a text in the notation with a head of comments: what to do, and what was learned. The monitor is
 // the player's, and the threads are the level's own. A teacher writes one, and sends it as a link.
 // @ts-check
-import { KINDS, titleOf } from './engine/kinds.js';
+import { KINDS, MAY_WAKE_UNASKED, realLock, titleOf } from './engine/kinds.js';
 import { Fault } from './notation/tokens.js';
 
 /**
@@ -13,7 +13,7 @@ import { Fault } from './notation/tokens.js';
 /** @typedef {import('./engine/game.js').Played} Played */
 
 const HEAD = /^\/\/ (\w+): *(.*)$/, FIRST_LINE = /^\/\/ level: /, GOALS = ['break', 'claim', 'predict', 'repair'];
-/** The kind that most students know: POSIX, Java. */
+/** The kind that is nearest to what most students know: POSIX, Java. */
 const MESA = 'NPNB';
 const FIELDS = ['level', 'goal', 'first', 'unasked', 'without', 'learned', 'read'];
 const THREADS = /^(daemon +)?thread\b/m, LINK = /^[A-Z]+\.md#[a-z0-9-]+$/;
@@ -89,11 +89,13 @@ export function lacks(level, monitor, played) {
 }
 
 /** Why nobody could do a level as it is given, for the teacher who writes it: '' if nothing is in the way.
- * @param {Level} level @param {Record<string, Played>} played @returns {string} */
-export function unfit(level, played) {
+ * @param {Level} level @param {Record<string, Played>} played @param {unknown} [isUnasked] whether wake-ups unasked are played
+ * @returns {string} */
+export function unfit(level, played, isUnasked = level.unasked) {
   const { goal, kind, first, monitor } = level, broken = goal === 'break' ? kind : first;
   const bad = (/** @type {string} */ it) => (played[it] ? played[it].bad : 0);
-  if (played[broken] && !bad(broken)) return `No order goes wrong under ${broken}: nobody can find one.`;
+  const real = MAY_WAKE_UNASKED.includes(broken) ? ` ${realLock(isUnasked)}` : '';
+  if (played[broken] && !bad(broken)) return `No order goes wrong under ${broken}: nobody can find one.${real}`;
   if (goal === 'claim' && bad(kind)) return `An order goes wrong under ${kind}: nobody can claim that none does.`;
   return goal === 'repair' && !lacks(level, monitor, played) ? 'It is right already: there is nothing to repair.' : '';
 }

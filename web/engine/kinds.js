@@ -7,7 +7,7 @@ export const KINDS = ['PB', 'NPB', 'PNB', 'NPNB', 'PQB', 'NPQB', 'PIR', 'NPIR', 
 const MODES = ['blocking', 'non-blocking', 'quasi-blocking', 'immediate return', 'automatic'];
 /** Who knows the kind by another name.
  * @type {Record<string, string>} */
-const KNOWN_AS = { PB: 'Hoare', NPNB: 'Mesa: POSIX, Java, Go', PNB: 'Mesa, waiters first', PIR: 'Concurrent Pascal',
+const KNOWN_AS = { PB: 'Hoare', NPNB: 'Mesa; near POSIX, Java, Go', PNB: 'Mesa, waiters first', PIR: 'Concurrent Pascal',
   PIS: 'automatic', NPIS: 'automatic, level' };
 /** The priorities of callers, waiters and signallers, for the sentence that says why.
  * @type {Record<string, number[]>} */
@@ -39,6 +39,11 @@ const PROMISE = {
   PIS: `${NO_SIGNALS}Who waits for one that holds comes before every caller.`,
   NPIS: `${NO_SIGNALS}Who waits comes in only while its test holds.`,
 };
+
+/** What a lock of POSIX or Java does, and no non-blocking kind here.
+ * @param {unknown} isUnasked whether wake-ups unasked are played, too @returns {string} */
+export const realLock = (isUnasked) => 'Here whoever leaves hands the monitor on at once; a real lock may be taken ' +
+  `again first. Add a thread that arrives meanwhile${isUnasked ? '' : ', or tick \u201cwake-ups unasked\u201d'}.`;
 
 /** The kind, and who knows it by another name.
  * @param {string} kind @returns {string} */

@@ -8,7 +8,7 @@ import { Editor } from './editor.js';
 import { Riddle, showGoal } from './goals.js';
 import { Play } from './play.js';
 import { keep, kept } from './store.js';
-import { chipsOf, hintOf, showChoices, showStory } from './story.js';
+import { chipsOf, hintOf, rightOf, showChoices, showStory } from './story.js';
 import { isSaid, showKinds, verdictOf } from './table.js';
 import { Work } from './worker.js';
 
@@ -201,7 +201,7 @@ export class App {
       if (!left) this.meet();
       else this.more = this.editor.own === level.monitor ? '' : left;
     }
-    if (level && this.isEdited) this.more = unfit(level, this.played);
+    if (level && this.isEdited) this.more = unfit(level, this.played, byId('unasked').checked);
     if (level && level.goal === 'predict' && !this.isMet && !this.isEdited) this.ask(level);
     this.showGoal();
   }
@@ -277,8 +277,7 @@ export class App {
     this.play.restart();
     const way = this.play.shortest();
     (way || []).forEach((it) => this.play && this.play.choose(it));
-    const { kind, runs } = this.play.kind;
-    this.tell(way ? '' : `There is none: all ${runs.toLocaleString('en')} orders are right under ${kind}.`, 'good');
+    this.tell(way ? '' : `There is none: ${rightOf(this.play.kind)}`, 'good');
     this.show();
   }
 
@@ -290,7 +289,7 @@ export class App {
       this.tell(`Not so: ${wrong} under ${kind}. Find one.`, 'bad');
       return;
     }
-    this.tell(`So it is: all ${runs.toLocaleString('en')} orders are right under ${kind}.`, 'good');
+    this.tell(`So it is: ${rightOf(this.play.kind)}`, 'good');
     if (this.level && this.level.goal === 'claim' && this.level.kind === kind && !this.isEdited) this.meet();
     this.showGoal();
     this.showTable();
@@ -343,7 +342,7 @@ export class App {
     byId('hint').disabled = Boolean(this.level && this.level.goal === 'claim' && !this.isMet);
     if (all.length < KINDS.length) byId('verdict').textContent = all.length ? `Played under ${all.length} of 10 kinds \u2026` : '';
     else if (this.isRiddle) byId('verdict').textContent = 'Every order was played. What came of it is shown when you are done.';
-    else byId('verdict').textContent = `${verdictOf(KINDS.map((it) => played[it]))}${this.warning()}`;
+    else byId('verdict').textContent = `${verdictOf(KINDS.map((it) => played[it]), this.more)}${this.warning()}`;
   }
 
   /** What right means, if nothing is required. */

@@ -1,6 +1,6 @@
 // The choices of a game, what happened so far with the rule that decided each step, and how it ended.
 // @ts-check
-import { promiseOf } from '../engine/kinds.js';
+import { promiseOf, realLock } from '../engine/kinds.js';
 import { button, byId, make, many, styleOf } from './dom.js';
 
 /** @typedef {import('./play.js').Play} Play */
@@ -76,6 +76,13 @@ function showEnd(play) {
       make('p', '', play.between()),
       make('p', 'rule', `${bad.toLocaleString('en')} of ${many(runs, 'order')} ${bad === 1 ? 'goes' : 'go'} wrong. ${promiseOf(kind)}`));
   }
+}
+
+/** What is said of a kind under which every order is right.
+ * @param {import('../engine/game.js').Played} played @returns {string} */
+export function rightOf({ kind, mode, runs }) {
+  const real = mode === 'non-blocking' ? ` ${realLock(byId('unasked').checked)}` : '';
+  return `all ${runs.toLocaleString('en')} orders are right under ${kind}.${real}`;
 }
 
 /** What a hint says.

@@ -1,7 +1,7 @@
 // The ten kinds: which one is played, and what came of each.
 // @ts-check
 import { remembered, worstOf } from '../engine/game.js';
-import { KINDS, promiseOf } from '../engine/kinds.js';
+import { KINDS, promiseOf, realLock } from '../engine/kinds.js';
 import { byId, listed, make } from './dom.js';
 
 /** @typedef {import('../engine/game.js').Played} Played */
@@ -40,8 +40,8 @@ export function showKinds({ played, on, isHidden, take }) {
 }
 
 /** What came of all kinds, in words.
- * @param {Played[]} all @returns {string} */
-export function verdictOf(all) {
+ * @param {Played[]} all @param {string} more what is said above @returns {string} */
+export function verdictOf(all, more) {
   const bad = all.filter((it) => it.bad && isSaid(it)), unsaid = all.filter((it) => !isSaid(it));
   const right = all.filter((it) => !it.bad);
   const names = (/** @type {Played[]} */ some) => listed(some.map((it) => it.kind));
@@ -52,6 +52,8 @@ export function verdictOf(all) {
     parts.push(`Wrong under ${names(bad)}. ${first}.`);
   }
   if (right.length) parts.push(right.length === all.length ? 'Right in every order under every kind.' : `Right in every order under ${names(right)}.`);
+  const real = realLock(byId('unasked').checked), isMesa = right.some((it) => it.mode === 'non-blocking');
+  if (isMesa && !more.includes(real)) parts.push(real);
   if (unsaid.length) parts.push(`It can\u2019t be said under ${names(unsaid)}.`);
   return parts.join(' ');
 }

@@ -61,6 +61,7 @@ for (const [goal, outcomes, words] of /** @type {[string, Record<string, any>, s
   ['repair NPNB', mended, 'nothing to repair'], ['break NPNB', mended, 'nobody can find one'], ['claim NPNB', broken, 'can claim']])) {
   const said = unfit(levelOf(`// level: A\n// goal: ${goal}\n${monitor}${threads}`), outcomes);
   must(said.includes(words), `${goal} is unfit: ${said}`);
+  must(said.includes('a real lock may be taken again') === goal.startsWith('break'), `${goal} on real locks: ${said}`);
 }
 must(KINDS.every((kind) => levels[2].kinds.includes(kind)), 'a repair without kinds is one of all ten');
 for (const [old, anew, words] of FAULTS) {

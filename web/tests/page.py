@@ -22,6 +22,7 @@ sys.dont_write_bytecode = True
 TOP = os.path.dirname(os.path.dirname(os.path.dirname(os.path.abspath(__file__))))
 sys.path.insert(0, os.path.join(TOP, "checks", "lib"))
 from browser import Browser  # noqa: E402
+from seen import BESIDE, COVERED, LOOK, SEEN  # noqa: E402
 
 PAGE = f"file://{TOP}/docs/playground.html"
 WIDE, PHONE = (1280, 720), (390, 844)
@@ -30,56 +31,6 @@ READY = "typeof playground !== 'undefined' && Object.keys(playground.played).len
 ENTER = {"key": "Enter", "code": "Enter", "windowsVirtualKeyCode": 13, "text": "\r"}
 # How long a move may take, in milliseconds.
 MOVE = 50
-LOOK = """(() => {
-  const rgb = (color) => (color.match(/[\\d.]+/g) || []).map(Number);
-  const part = (v) => (v <= .03928 ? v / 12.92 : ((v + .055) / 1.055) ** 2.4);
-  const light = ([r, g, b]) => .2126 * part(r / 255) + .7152 * part(g / 255) + .0722 * part(b / 255);
-  const ground = (el) => { for (let it = el; it; it = it.parentElement) {
-    const c = rgb(getComputedStyle(it).backgroundColor);
-    if (c.length === 3 || c[3] > .5) return c; } return [255, 255, 255]; };
-  const found = [];
-  for (const el of document.querySelectorAll('body *')) {
-    const isText = [...el.childNodes].some((n) => n.nodeType === 3 && n.textContent.trim()) || el.tagName === 'TEXTAREA';
-    if (!isText || !el.getClientRects().length || /SCRIPT|STYLE|OPTION/.test(el.tagName) || el.closest(':disabled')) continue;
-    const a = light(rgb(getComputedStyle(el).color)), b = light(ground(el));
-    const ratio = (Math.max(a, b) + .05) / (Math.min(a, b) + .05);
-    const name = `${el.tagName} ${el.id} ${el.className}: ${el.textContent.slice(0, 20)}`;
-    if (ratio < 4.5) found.push(`contrast ${ratio.toFixed(2)} of ${name}`);
-  }
-  for (const el of document.querySelectorAll('button, select, textarea, input')) {
-    const box = el.getBoundingClientRect();
-    if (!box.width || el.closest('[aria-hidden]') || el.getAttribute('aria-hidden')) continue;
-    const labels = [...(el.labels || [])].map((it) => it.textContent.trim()).join('');
-    if (!(el.getAttribute('aria-label') || el.textContent.trim() || labels)) found.push(`no name: ${el.outerHTML.slice(0, 60)}`);
-    if (el.tagName === 'BUTTON' && (box.width < 24 || box.height < 24)) found.push(`small: ${el.textContent}`);
-  }
-  return found; })()"""
-# Whether each choice has a button at its thread's line.
-BESIDE = """(() => { const choices = document.querySelectorAll('#choices button').length;
-  const beside = [...document.querySelectorAll('#tags .can')].filter((it) => { const box = it.getBoundingClientRect();
-    return box.width > 20 && box.right <= innerWidth && box.top >= 0 && box.bottom <= innerHeight; });
-  return choices > 0 && beside.length === choices; })()"""
-# The threads whose lines end under chips, even after a scroll to the right.
-COVERED = """new Promise((done) => {
-  const code = document.getElementById('code'), text = document.getElementById('threads').firstChild;
-  const rows = [...document.querySelectorAll('#tags .row')], lines = text.data.trimEnd().split('\\n');
-  code.scrollLeft = code.scrollWidth;
-  setTimeout(() => {
-    let at = 0;
-    const found = lines.filter((line, i) => {
-      const range = document.createRange(), chip = rows[rows.length - lines.length + i].firstElementChild;
-      range.setStart(text, at);
-      range.setEnd(text, at += line.length);
-      at += 1;
-      return chip && range.getBoundingClientRect().right > chip.getBoundingClientRect().left + 1;
-    });
-    code.scrollLeft = 0;
-    setTimeout(() => done(found), 50);
-  }, 50);
-})"""
-SEEN = """(() => ['code', 'monitor', 'choices', 'kinds', 'goal', 'say'].filter((id) => {
-  const box = document.getElementById(id).getBoundingClientRect();
-  return box.bottom > innerHeight || box.right > innerWidth; }))()"""
 TIMED = """new Promise((done) => {
   const { work } = playground, begun = performance.now(), tell = work.tell;
   let first = 0;
@@ -110,6 +61,9 @@ FAULTY = "monitor M {\n  let items = [];\n  procedure f() { items.push(\"tea); }
 ENDLESS = "monitor M {\n  procedure f() { for (;;); }\n}\nthread t { f(); }"
 MANY = ("monitor M {\n  let n = 0;\n  condition c;\n  procedure f() { n += 1; if (n < 3) wait(c); signal(c); n -= 1; }\n}\n"
         "thread t[9] { f(); f(); f(); }")
+PRINTER = ("monitor Printer {\n  let busy = 0;\n  condition free;\n  procedure acquire() { if (busy) wait(free); assert(!busy); "
+           "busy = 1; }\n  procedure release() { busy = 0; signal(free); }\n}\n"
+           "thread ann { acquire(); release(); acquire(); release(); }\nthread bob { acquire(); release(); }\n")
 OWN = ("// level: Tea\n// goal: break NPNB\n// learned: a word\nmonitor M {\n  let n = 0;\n  condition c;\n  procedure f() "
        "{ if (n == 0) wait(c); assert(n > 0); n -= 1; }\n  procedure g() { n += 1; signal(c); }\n}\n"
        "thread a[2] { f(); }\ndaemon thread b { g(); }\n")
@@ -263,7 +217,25 @@ def texts(it: Student) -> None:
     it.must("right says only that no thread is stuck" in it.text("verdict"), it.text("verdict"))
     it.write(MANY)
     it.wait("document.getElementById('fault').textContent.startsWith('Too large: NPNB has more than')", "a large scene")
+    real(it)
     it.quiet("texts")
+
+
+def real(it: Student) -> None:
+    """Where no order of a non-blocking kind goes wrong, the page says what a real lock does, and its advice finds it."""
+    it.write(PRINTER)
+    it.wait(READY, "two threads share a printer")
+    it.must(it.text("verdict").startswith("Right in every order under every kind. Here whoever leaves"), it.text("verdict"))
+    it.press("w")
+    it.must("under NPNB. Here whoever leaves" in it.text("told") and "tick" in it.text("told"), it.text("told"))
+    it.press("pppw")
+    it.must(it.text("told").endswith("under PB."), f"a real lock is no reason under PB: {it.text('told')}")
+    it.run("document.getElementById('unasked').click(), 1")
+    it.wait(f"{READY} && playground.played.NPNB.bad > 0", "a wake-up unasked breaks it")
+    it.run("document.getElementById('unasked').click(), 1")
+    it.write(f"{PRINTER}thread cid {{ acquire(); release(); }}\n")
+    it.wait(f"{READY} && playground.played.NPNB.bad > 0", "a thread that arrives meanwhile breaks it")
+    it.must("NPNB" in it.text("verdict") and "real lock" in it.text("verdict"), f"PNB is right still: {it.text('verdict')}")
 
 
 def links(it: Student) -> None:
@@ -290,7 +262,9 @@ def links(it: Student) -> None:
     it.write(OWN)
     it.wait(f"document.getElementById('goal').innerText.includes('Your level: Tea') && {READY}", "a level is read")
     it.write(OWN.replace("a[2]", "a"))
-    it.wait("document.getElementById('goal').innerText.includes('nobody can find one')", "a level that can't be done")
+    it.wait("document.getElementById('goal').innerText.includes('nobody can find one. Here whoever leaves')", "a level that can't be done")
+    it.wait(READY, "all kinds of it are played")
+    it.must("a real lock" not in it.text("verdict"), "what a real lock does is said twice")
     it.write(OWN)
     it.wait(f"!document.getElementById('goal').innerText.includes('nobody') && {READY}", "a level that can be done")
     it.press("l")
