@@ -69,7 +69,7 @@ export function taskOf(level, isBroken) {
   if (level.first && !isBroken) return `First break it: ${find}.${asked}`;
   if (level.goal === 'break') return `Break it: ${find}.${asked}`;
   if (level.goal === 'claim') return `Try to ${find}, or say that there is none.${asked}`;
-  if (level.goal === 'predict') return `Say who goes on, before it is shown, under ${level.kinds.map(titleOf).join(' and ')}.`;
+  if (level.goal === 'predict') return `When one signals or leaves, click who is inside next, under ${level.kinds.map(titleOf).join(' and ')}.`;
   const kinds = level.kinds.length === KINDS.length ? 'all ten kinds' : level.kinds.join(', ');
   const without = level.without.length ? `, without ${level.without.join(' or ')}` : '';
   return `Change the monitor (click its text): make it right in every order under ${kinds}${without}.${asked}`;
@@ -89,8 +89,8 @@ export function lacks(level, monitor, played) {
 }
 
 /** Why nobody could do a level as it is given, for the teacher who writes it: '' if nothing is in the way.
- * @param {Level} level @param {Record<string, Played>} played @param {unknown} [isUnasked] whether wake-ups unasked are played
- * @returns {string} */
+ * @param {Level} level @param {Record<string, Played>} played
+ * @param {unknown} [isUnasked] whether wake-ups unasked are played @returns {string} */
 export function unfit(level, played, isUnasked = level.unasked) {
   const { goal, kind, first, monitor } = level, broken = goal === 'break' ? kind : first;
   const bad = (/** @type {string} */ it) => (played[it] ? played[it].bad : 0);

@@ -5,7 +5,7 @@ import { firstOf, headerOf, isLevel, lacks, levelOf, unfit } from '../levels.js'
 import { showBoard } from './board.js';
 import { byId } from './dom.js';
 import { Editor } from './editor.js';
-import { Riddle, showGoal } from './goals.js';
+import { Riddle, showGoal, showSoon } from './goals.js';
 import { Play } from './play.js';
 import { keep, kept } from './store.js';
 import { chipsOf, hintOf, rightOf, showChoices, showStory } from './story.js';
@@ -72,6 +72,11 @@ export class App {
   get isRiddle() {
     const { level } = this;
     return Boolean(level) && !this.isMet && !this.isEdited && (!this.isBroken || level !== null && level.goal !== 'repair');
+  }
+
+  /** Whether questions stand in place of the game. */
+  get isAsked() {
+    return Boolean(this.level && this.level.goal === 'predict' && !this.isMet && !this.isEdited);
   }
 
   /** @param {Place} place */
@@ -183,6 +188,7 @@ export class App {
 
   /** @param {Played} played */
   begin(played) {
+    if (this.isAsked) return;
     this.kind = played.kind;
     this.play = new Play(played, this.seats);
     this.wanted.every((way) => this.play && this.play.choose(way));
@@ -202,7 +208,7 @@ export class App {
       else this.more = this.editor.own === level.monitor ? '' : left;
     }
     if (level && this.isEdited) this.more = unfit(level, this.played, byId('unasked').checked);
-    if (level && level.goal === 'predict' && !this.isMet && !this.isEdited) this.ask(level);
+    if (level && this.isAsked) this.ask(level);
     this.showGoal();
   }
 
@@ -320,18 +326,19 @@ export class App {
   show() {
     this.showGoal();
     this.showTable();
-    const { play } = this, choose = (/** @type {number} */ way) => this.choose(way);
-    byId('right').classList.toggle('old', !play);
-    byId('right').classList.toggle('asking', Boolean(this.riddle));
+    const { play, isAsked } = this, choose = (/** @type {number} */ way) => this.choose(way);
+    byId('right').classList.toggle('old', !play && !isAsked);
+    byId('right').classList.toggle('asking', isAsked);
     ['undo', 'again'].forEach((id) => (byId(id).disabled = !play || !play.path.length));
-    if (!play) this.editor.show([]);
-    if (!play || this.riddle) return;
+    if (!play && !this.riddle) this.editor.show([]);
+    if (isAsked && !this.riddle) showSoon(this.kind);
+    if (play || isAsked) this.moved();
+    if (!play) return;
     byId('asks').textContent = 'Who moves?';
     showBoard(play.kind, play.now, this.seats);
     this.editor.show(chipsOf(play, choose));
     showChoices(play, choose);
     showStory(play);
-    this.moved();
   }
 
   showTable() {

@@ -43,6 +43,17 @@ function learned(level) {
   return found;
 }
 
+/** What stands in place of the game until the questions begin.
+ * @param {string} kind the first that is played */
+export function showSoon(kind) {
+  ['around', 'box', 'choices', 'end', 'log'].forEach((id) => byId(id).replaceChildren());
+  byId('asks').textContent = byId('fault').textContent ? '' : 'The questions follow as soon as every order is played.';
+  showRule(kind);
+}
+
+/** @param {string} kind */
+const showRule = (kind) => byId('say').replaceChildren(make('span', 'rule', promiseOf(kind)));
+
 /** A row of questions on who goes on. */
 export class Riddle {
   /** @param {string[]} seats @param {(question: Question) => void} show
@@ -74,7 +85,8 @@ export class Riddle {
     byId('asks').textContent = `${this.at + 1} of ${this.asked.length}, under ${it.kind}: now ${name}, at line ${line}, ` +
       `${it.says}. Who is inside then?`;
     byId('choices').replaceChildren(...rows);
-    ['told', 'say', 'end'].forEach((id) => byId(id).replaceChildren());
+    byId('told').replaceChildren();
+    showRule(it.kind);
   }
 
   /** @param {number} seat */

@@ -39,7 +39,8 @@ function toggleTheme(app) {
  * @param {App} app */
 async function share(app) {
   const place = app.place(), isOwnLevel = Boolean(app.level && app.isEdited), base = location.href.split('#')[0];
-  const address = base + await addressOf(isOwnLevel ? { text: place.text ?? app.editor.text, unasked: place.unasked } : place);
+  const { text = app.editor.text, unasked } = place;
+  const address = base + await addressOf(isOwnLevel ? { text, unasked } : place);
   byId('address').value = address;
   const words = isOwnLevel ? 'This link gives the level to students. Keep your text, to change it later.' : '';
   byId('edits').textContent = byId('fault').textContent ? 'The text has a fault: mend it before you send this.' : words;

@@ -31,6 +31,14 @@ READY = "typeof playground !== 'undefined' && Object.keys(playground.played).len
 ENTER = {"key": "Enter", "code": "Enter", "windowsVirtualKeyCode": 13, "text": "\r"}
 # How long a move may take, in milliseconds.
 MOVE = 50
+# Level 1, when its first kind is played and the others aren't: how many moves it shows, its words, and its buttons.
+SOON = """(() => {
+  const { played, seats } = playground;
+  playground.run();
+  playground.hear({ played: played.PB, seats });
+  return [document.querySelectorAll('#choices li').length, document.getElementById('asks').innerText,
+    document.getElementById('does').getClientRects().length];
+})()"""
 TIMED = """new Promise((done) => {
   const { work } = playground, begun = performance.now(), tell = work.tell;
   let first = 0;
@@ -132,9 +140,16 @@ class Student:
 def riddle(it: Student) -> None:
     """Level 1: each question is answered by what the page's own data say, once wrongly first."""
     it.open("#level=1")
+    it.must("When one signals or leaves, click who is inside next" in it.text("goal"), "level 1 doesn't say how")
+    choices, said, does = it.run(SOON)
+    it.must(not choices and not does and said == "The questions follow as soon as every order is played.",
+            f"before its questions, level 1 shows {choices} moves: {said}")
+    it.wait(f"playground.riddle && {READY}", "level 1 asks")
     asked = it.run("playground.riddle.asked.map((it) => it.answer)")
     it.must(len(asked) == 6, f"level 1 asks {len(asked)} questions")
     for number, answer in enumerate(asked):
+        rule = "PB (Hoare): The one who is served" if number < 3 else "NPNB (Mesa; near POSIX, Java, Go): The signaller"
+        it.must(it.text("say").startswith(rule), f"the rule at question {number + 1}: {it.text('say')}")
         if number == 0:
             it.press(str((answer + 1) % 3 + 1))
             it.must(it.text("told").startswith("Not ") and "PB (Hoare): " in it.text("told"), "a wrong answer says no rule")
