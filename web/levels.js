@@ -69,7 +69,8 @@ export function taskOf(level, isBroken) {
   if (level.first && !isBroken) return `First break it: ${find}.${asked}`;
   if (level.goal === 'break') return `Break it: ${find}.${asked}`;
   if (level.goal === 'claim') return `Try to ${find}, or say that there is none.${asked}`;
-  if (level.goal === 'predict') return `When one signals or leaves, click who is inside next, under ${level.kinds.map(titleOf).join(' and ')}.`;
+  const under = level.kinds.map(titleOf).join(' and ');
+  if (level.goal === 'predict') return `When one signals or leaves, click who is inside next, under ${under}.`;
   const kinds = level.kinds.length === KINDS.length ? 'all ten kinds' : level.kinds.join(', ');
   const without = level.without.length ? `, without ${level.without.join(' or ')}` : '';
   return `Change the monitor (click its text): make it right in every order under ${kinds}${without}.${asked}`;

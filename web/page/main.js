@@ -10,6 +10,8 @@ import { keep } from './store.js';
  * @typedef {{kernel: string, levels: string[], scenes: Record<string, string>}} Stored */
 
 const REST = 150;
+const FILE = 'The page is a file here: this link opens only on this computer. For another, put what follows # behind the ' +
+  'address of the page there.';
 
 /** Whether the browser lacks something that the page needs. */
 const lacking = () => (typeof WebAssembly !== 'object' ? 'WebAssembly' : typeof Worker !== 'function' ? 'workers' :
@@ -42,8 +44,9 @@ async function share(app) {
   const { text = app.editor.text, unasked } = place;
   const address = base + await addressOf(isOwnLevel ? { text, unasked } : place);
   byId('address').value = address;
-  const words = isOwnLevel ? 'This link gives the level to students. Keep your text, to change it later.' : '';
-  byId('edits').textContent = byId('fault').textContent ? 'The text has a fault: mend it before you send this.' : words;
+  const keeps = isOwnLevel ? ' Keep your text, to change it later.' : '';
+  const words = location.protocol === 'file:' ? FILE : isOwnLevel ? 'This link gives the level to students.' : '';
+  byId('edits').textContent = byId('fault').textContent ? 'The text has a fault: mend it before you send this.' : words + keeps;
   byId('share').showModal();
   byId('address').select();
   if (navigator.clipboard) navigator.clipboard.writeText(address).catch(() => {});

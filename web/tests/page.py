@@ -11,6 +11,8 @@ from __future__ import annotations
 
 import argparse
 import base64
+import functools
+import http.server
 import os
 import socket
 import sys
@@ -75,6 +77,13 @@ PRINTER = ("monitor Printer {\n  let busy = 0;\n  condition free;\n  procedure a
 OWN = ("// level: Tea\n// goal: break NPNB\n// learned: a word\nmonitor M {\n  let n = 0;\n  condition c;\n  procedure f() "
        "{ if (n == 0) wait(c); assert(n > 0); n -= 1; }\n  procedure g() { n += 1; signal(c); }\n}\n"
        "thread a[2] { f(); }\ndaemon thread b { g(); }\n")
+
+
+class Quiet(http.server.SimpleHTTPRequestHandler):
+    """A server that says nothing of its requests."""
+
+    def log_message(self, *_: object) -> None:
+        pass
 
 
 class Student:
@@ -284,6 +293,7 @@ def links(it: Student) -> None:
     it.wait(f"!document.getElementById('goal').innerText.includes('nobody') && {READY}", "a level that can be done")
     it.press("l")
     it.wait("document.getElementById('address').value.includes('#')", "the link is shown")
+    it.must("opens only on this computer" in it.text("edits"), f"the link of a file: {it.text('edits')}")
     address = it.run("document.getElementById('address').value")
     it.open(address[address.index("#"):])
     it.must("Tea." in it.text("goal") and "Break it: find an order" in it.text("goal"), it.text("goal"))
@@ -291,6 +301,19 @@ def links(it: Student) -> None:
     it.open("#scene=constructor&level=99&kind=XY&moves=7.x.9")
     it.must("1. Who goes next?" in it.text("goal"), "a link that says nothing leads nowhere")
     it.quiet("links")
+
+
+def served(it: Student) -> None:
+    """From a server, the link of a level opens anywhere."""
+    handler = functools.partial(Quiet, directory=os.path.join(TOP, "docs"))
+    with http.server.ThreadingHTTPServer(("127.0.0.1", 0), handler) as server:
+        threading.Thread(target=server.serve_forever, daemon=True).start()
+        address = f"http://127.0.0.1:{server.server_port}/playground.html#scene=your%20own%20level"
+        it.browser.go(address, *WIDE, False)
+        it.wait(READY, "a page from a server is played")
+        it.press("l")
+        it.wait("document.getElementById('edits').textContent.startsWith('This link gives the level to students.')", "its link")
+        server.shutdown()
 
 
 def looks(it: Student) -> None:
@@ -364,7 +387,7 @@ def main() -> int:
     words = asked.parse_args()
     with Browser() as browser:
         it = Student(browser, words.shots)
-        parts = [riddle, thief, repair, claim, break_first, texts, links, looks, speed, alone]
+        parts = [riddle, thief, repair, claim, break_first, texts, links, served, looks, speed, alone]
         for part in [*parts, times] if words.times else parts:
             part(it)
     print("\n".join([*it.wrong, f"page: {it.tried - len(it.wrong)} of {it.tried} things are as they should be"]))
