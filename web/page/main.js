@@ -62,7 +62,7 @@ function wire(app) {
   byId('unasked').addEventListener('change', () => app.run());
   byId('levels').append(...app.given.levels.map((_, i) => button(String(i + 1), () => app.open({ level: i + 1 }))));
   const names = Object.keys(app.given.scenes), option = (/** @type {string} */ it) => {
-    const found = make('option', '', it.replace(/_wrong$/, ': the mistake').replace(/_/g, ' '));
+    const found = make('option', '', it.replace(/^your/, 'write your').replace(/_wrong$/, ': the mistake').replace(/_/g, ' '));
     found.value = it;
     return found;
   };

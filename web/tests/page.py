@@ -278,6 +278,7 @@ def links(it: Student) -> None:
     it.open(it.run("location.hash"))
     it.must(it.text("kinds") == kinds, "the link holds another text")
     it.open("#scene=your own level")
+    it.must(it.run("document.getElementById('scenes').options[1].text") == "write your own level", "it isn't offered first")
     it.write(FAULTY)
     it.wait("document.getElementById('fault').textContent.includes('quotes')", "a level's fault is said")
     it.press("l")
