@@ -7,27 +7,41 @@ import { button, byId, make, many, styleOf } from './dom.js';
 /** @typedef {import('./editor.js').Chip} Chip */
 /** @typedef {(way: number) => void} Choose */
 
-/** @type {Record<string, string>} */
-const AFTER = { entry: 'then a caller', waiter: 'then a waiter', signaller: 'then the signaller' };
-const NTH = ['next', '2nd', '3rd', '4th', '5th', '6th', '7th', '8th'];
+const NTH = ['first', '2nd', '3rd', '4th', '5th', '6th', '7th', '8th'];
 const FREE = /^(outside|inside|done)$/;
 
 /** @param {Play} play @param {number} seat @returns {string} */
 const placeOf = (play, seat) => Object.keys(play.now.where).find((it) => play.now.where[it].includes(seat)) || 'outside';
 
+/** Whose turn it is after a move, by what it makes happen: another's, or its own.
+ * @param {import('../engine/game.js').Move} move @returns {number} */
+export function nextOf({ who, told }) {
+  const at = told.findIndex(([, words]) => /^(leaves|waits|signals)/.test(words));
+  const found = told.slice(at + 1).find(([, words]) => /^(comes in|goes on)$/.test(words));
+  return found ? found[0] : who;
+}
+
+/** A move in words. Where it is a choice of who comes next, it names that one, and where it waits.
+ * @param {Play} play @param {import('../engine/game.js').Move} move @returns {string} */
+function wordsOf(play, move) {
+  const { who, says, wish } = move, next = nextOf(move), place = placeOf(play, next), { seats } = play;
+  const then = next === who ? ' and goes on' : `, then ${seats[next]} (${place.startsWith('on ') ? place : `${place} queue`})`;
+  return `${seats[who]} ${says}${wish ? then : ''}`;
+}
+
 /** @param {Play} play @param {Choose} choose */
 export function showChoices(play, choose) {
   const { seats, now } = play;
-  const rows = now.ways.map(({ who, says, wish }, i) => {
-    const words = `${seats[who]} ${says}${wish ? `, ${AFTER[wish]}` : ''}`, it = button('', () => choose(i));
-    it.append(make('b', '', String(i + 1)), words);
+  const rows = now.ways.map((move, i) => {
+    const it = button('', () => choose(i));
+    it.append(make('b', '', String(i + 1)), wordsOf(play, move));
     return make('li', '', it);
   });
   seats.forEach((name, seat) => {
     const place = placeOf(play, seat);
     if (FREE.test(place) || now.end) return;
-    const at = now.where[place].indexOf(seat), what = place.startsWith('on ') ? place : `in the ${place} queue`;
-    rows.push(make('li', 'cannot', `${name} can\u2019t move: waits ${what} (${NTH[at] || at + 1})`));
+    const at = now.where[place].indexOf(seat), what = place.startsWith('on ') ? `to wait ${place}` : `in the ${place} queue`;
+    rows.push(make('li', 'cannot', `${name} can\u2019t move: it is ${NTH[at] || `${at + 1}th`} ${what}`));
   });
   if (!now.ways.length) rows.push(make('li', 'cannot', 'Nobody: the run is over.'));
   byId('choices').replaceChildren(...rows);
@@ -40,8 +54,8 @@ export function chipsOf(play, choose) {
   const { seats, now } = play, { end } = now, fault = end && Number((end[2].match(/line (\d+)/) || [])[1]);
   return now.lines.map((own, seat) => {
     const isBad = end && end[0] === 'wrong' && end[1] === seats[seat], ways = now.ways.map((way, i) => ({ ...way, i }));
-    const moves = ways.filter(({ who }) => who === seat).map(({ wish, i }) => ({
-      words: wish, does: () => choose(i) }));
+    const moves = ways.filter(({ who }) => who === seat).map((way) => ({
+      words: way.wish ? seats[nextOf(way)] : '', does: () => choose(way.i) }));
     const style = isBad ? 'wrong' : styleOf(placeOf(play, seat));
     return { line: isBad && fault ? fault : own, chip: { name: seats[seat], style, moves } };
   }).filter(({ line }) => line > 0);

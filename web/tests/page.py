@@ -24,7 +24,7 @@ sys.dont_write_bytecode = True
 TOP = os.path.dirname(os.path.dirname(os.path.dirname(os.path.abspath(__file__))))
 sys.path.insert(0, os.path.join(TOP, "checks", "lib"))
 from browser import Browser  # noqa: E402
-from seen import BESIDE, COVERED, LOOK, SEEN  # noqa: E402
+from seen import BESIDE, COVERED, LOOK, SEEN, SOON  # noqa: E402
 
 PAGE = f"file://{TOP}/docs/playground.html"
 WIDE, PHONE = (1280, 720), (390, 844)
@@ -33,14 +33,6 @@ READY = "typeof playground !== 'undefined' && Object.keys(playground.played).len
 ENTER = {"key": "Enter", "code": "Enter", "windowsVirtualKeyCode": 13, "text": "\r"}
 # How long a move may take, in milliseconds.
 MOVE = 50
-# Level 1, when its first kind is played and the others aren't: how many moves it shows, its words, and its buttons.
-SOON = """(() => {
-  const { played, seats } = playground;
-  playground.run();
-  playground.hear({ played: played.PB, seats });
-  return [document.querySelectorAll('#choices li').length, document.getElementById('asks').innerText,
-    document.getElementById('does').getClientRects().length];
-})()"""
 TIMED = """new Promise((done) => {
   const { work } = playground, begun = performance.now(), tell = work.tell;
   let first = 0;
@@ -183,6 +175,9 @@ def thief(it: Student) -> None:
     it.press("".join(str(move + 1) for move in moves))
     it.must("You broke NPNB, in 7 moves." in it.text("end") and "thief came in between" in it.text("end"), it.text("end"))
     it.must("Done" in it.text("goal") and "9 of 131" in it.text("kinds"), "level 2 is not done")
+    it.open("#level=2&kind=NPNB&moves=0.0.0.0")
+    queues = (", then thief (entry queue)", ", then taker (waiter queue)", "can’t move: it is first in the waiter queue")
+    it.must(all(words in it.text("choices") for words in queues), f"the choices name no thread: {it.text('choices')}")
     it.shoot("2_thief")
 
 
@@ -324,6 +319,7 @@ def looks(it: Student) -> None:
         for level in (2, 9, 10):
             it.open(f"#level={level}", size, dark)
             it.must(it.run("document.documentElement.dataset.theme") == ("dark" if dark else "light"), f"{name}: the theme")
+            it.must("wake-ups" in it.text("wakes"), f"{name}: the tick reads {it.text('wakes')}")
             it.must(it.run("document.documentElement.scrollWidth <= innerWidth"), f"{name}: level {level} is too wide")
             covered = it.run(COVERED)
             it.must(not covered, f"{name}: level {level} covers the end of {covered}")

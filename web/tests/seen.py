@@ -52,3 +52,11 @@ COVERED = """new Promise((done) => {
 SEEN = """(() => ['code', 'monitor', 'choices', 'kinds', 'goal', 'say'].filter((id) => {
   const box = document.getElementById(id).getBoundingClientRect();
   return box.bottom > innerHeight || box.right > innerWidth; }))()"""
+# Level 1, when its first kind is played and the others aren't: how many moves it shows, its words, and its buttons.
+SOON = """(() => {
+  const { played, seats } = playground;
+  playground.run();
+  playground.hear({ played: played.PB, seats });
+  return [document.querySelectorAll('#choices li').length, document.getElementById('asks').innerText,
+    document.getElementById('does').getClientRects().length];
+})()"""
