@@ -9,7 +9,7 @@ from idioms import RECORDER, SECONDS, recorder
 from unasked import fail
 
 CANT, AT_ONCE, BUFFER, SAID = 125, 5, ("buffer", "right", "20"), "buffer: wrong 0\n"
-OPENED = 4      # of the files of a run of many volumes; one of the first is of names
+OPENED = 8      # of the files of a run of many volumes; one of these is of names (of four it isn't at each load)
 
 
 class Fault(NamedTuple):
@@ -124,8 +124,9 @@ class Outputs:
             fail("outputs names: no file of names was lost")
 
     def cancelled(self) -> None:
-        """A thread that was cancelled ends the program: its history is written all the same."""
-        done = self.tests.run("NPNB", "any", self.tests.words(("idioms", "cancelled_at_once")), "--history", self.fresh())
+        """A thread that was cancelled ends the program: its history is written, whether it has waited or not."""
+        words = self.tests.words(("idioms", "cancelled_at_once"))
+        done = self.tests.run("NPNB", "any", words, "--eager", "1", "--history", self.fresh())
         if done.returncode != AT_ONCE or self.tests.audited(self.folder)[0] != 1:
             fail(f"outputs cancelled: status {done.returncode}: {done.stderr}")
 
